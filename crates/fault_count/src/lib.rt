@@ -1,0 +1,8 @@
+//! How an object outside the program fails: the count of its faults, and what it tells of its content.
+#![tactic(auto)]
+
+mod count;
+#[cfg(test)]
+mod tests;
+
+pub use count::{Failed, FaultCount};

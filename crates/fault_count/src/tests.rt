@@ -1,0 +1,11 @@
+//! The answer of a fault.
+
+use crate::{Failed, FaultCount};
+
+#[test]
+fn each_fault_is_answered_as_failed(rt: HostRuntime) {
+    let mut faults = FaultCount::new();
+    for _ in 0..3 {
+        assert_eq!(rt; faults.raise(), Failed);
+    }
+}
