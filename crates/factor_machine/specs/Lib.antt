@@ -1,0 +1,4 @@
+pub mod Row
+pub mod Reload
+pub mod Step
+pub mod Legal
