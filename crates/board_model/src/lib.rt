@@ -1,0 +1,11 @@
+//! One device with a directory of files and a chip store, and what a crash may leave of it.
+#![tactic(auto)]
+
+mod board;
+mod file_board;
+mod real_folder;
+#[cfg(test)]
+mod tests;
+
+pub use board::{Board, BoardFault};
+pub use file_board::FileBoard;

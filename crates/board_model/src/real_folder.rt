@@ -1,0 +1,204 @@
+//! A real directory and the chip directory beside it.
+
+use ct_bytes::{NoMemory, Text};
+use std::alloc::{AllocError, Global};
+use std::fs::OpenFile;
+use std::io::{ErrorKind, Read};
+use std::rt::Files;
+use std::{fs, io};
+
+/// The chip's file, and the temporary file that replaces it.
+const WORDS: &str = "words";
+
+const NEW_WORDS: &str = "tmp-words";
+
+/// What the name of the chip's directory has more than the other's.
+const CHIP_END: &str = ".chip";
+
+/// How much room a path has after its directory: a slash and the longest file name.
+const NAME_ROOM: usize = 256;
+
+/// A directory, the chip's directory beside it, and room for two paths.
+#[derive(Drop)]
+pub struct RealFolder<R> {
+    rt: R,
+    folder: String,
+    chip: String,
+    path: String,
+    target: String,
+    lost: bool,
+}
+
+// The directory without slashes at its end. One of slashes alone is the root.
+fn without_slashes(dir: &str) -> &str {
+    let folder = dir.trim_end_matches('/');
+    if folder.is_empty() && !dir.is_empty() {
+        "/"
+    } else {
+        folder
+    }
+}
+
+// Writes the path of a file into `path`.
+fn join(path: &mut String, folder: &str, name: &str) -> Result<(), AllocError> {
+    path.clear();
+    path.push_str(folder)?;
+    path.push('/')?;
+    path.push_str(name)
+}
+
+impl<R: Files + AllocGlobal + Clone + Drop> RealFolder<R> {
+    /// Makes both directories where they are absent.
+    pub fn open(rt: R, alloc: Global, dir: &str) -> io::Result<RealFolder<R>> {
+        let folder = without_slashes(dir);
+        if folder.is_empty() {
+            return Err(io::Error::from(ErrorKind::NotFound));
+        }
+        let room = folder.len().saturating_add(CHIP_END.len() + NAME_ROOM);
+        let chip = format!(in alloc; "{folder}{CHIP_END}")?;
+        let path = String::with_capacity(alloc, room)?;
+        let target = String::with_capacity(alloc, room)?;
+        let folder = String::from_str(alloc, folder)?;
+        fs::create_dir_all(&rt, folder.as_str())?;
+        fs::create_dir_all(&rt, chip.as_str())?;
+        Ok(RealFolder {
+            rt,
+            folder,
+            chip,
+            path,
+            target,
+            lost: false,
+        })
+    }
+
+    /// Fails once a sync has failed: what was to be synced may then be lost without another word.
+    fn usable(&self) -> io::Result<()> {
+        if self.lost {
+            Err(io::Error::from(ErrorKind::Other))
+        } else {
+            Ok(())
+        }
+    }
+
+    // Syncs the file or the directory that `path` names.
+    fn sync_path(&mut self) -> io::Result<()> {
+        let file = fs::open(&self.rt, self.path.as_str())?;
+        let synced = file.sync_all();
+        if synced.is_err() {
+            self.lost = true;
+        }
+        synced
+    }
+
+    fn sync_folder(&mut self) -> io::Result<()> {
+        join(&mut self.path, self.folder.as_str(), ".")?;
+        self.sync_path()
+    }
+
+    fn sync_chip(&mut self) -> io::Result<()> {
+        join(&mut self.path, self.chip.as_str(), ".")?;
+        self.sync_path()
+    }
+
+    /// The names of the regular files that are UTF-8, in the order of their bytes.
+    pub fn names(&mut self, alloc: Global) -> io::Result<Vec<Text>> {
+        self.usable()?;
+        let mut names = Vec::new(alloc);
+        for entry in fs::read_dir(&self.rt, self.folder.as_str())? {
+            match entry {
+                Ok(entry) => {
+                    if entry.file_type()?.is_file() {
+                        names.push(text_of(alloc, entry.file_name())?)?;
+                    }
+                }
+                Err(error) if error.kind() == ErrorKind::InvalidFilename => {}
+                Err(error) => return Err(error),
+            }
+        }
+        names.sort()?;
+        Ok(names)
+    }
+
+    /// The first `most` bytes of a file at most.
+    pub fn bytes(&mut self, alloc: Global, name: &str, most: usize) -> io::Result<Vec<u8>> {
+        self.usable()?;
+        join(&mut self.path, self.folder.as_str(), name)?;
+        let file = fs::open(&self.rt, self.path.as_str())?;
+        let mut bytes = Vec::new(alloc);
+        file.take(most as u64).read_to_end(&mut bytes)?;
+        Ok(bytes)
+    }
+
+    pub fn write(&mut self, name: &str, bytes: &[u8]) -> io::Result<()> {
+        self.usable()?;
+        join(&mut self.path, self.folder.as_str(), name)?;
+        fs::write(&self.rt, self.path.as_str(), bytes)
+    }
+
+    pub fn sync(&mut self, name: &str) -> io::Result<()> {
+        self.usable()?;
+        join(&mut self.path, self.folder.as_str(), name)?;
+        self.sync_path()
+    }
+
+    pub fn rename(&mut self, from: &str, to: &str) -> io::Result<()> {
+        self.usable()?;
+        join(&mut self.path, self.folder.as_str(), from)?;
+        join(&mut self.target, self.folder.as_str(), to)?;
+        fs::rename(&self.rt, self.path.as_str(), self.target.as_str())
+    }
+
+    /// Where there is no such file, that is `Ok`.
+    pub fn remove(&mut self, name: &str) -> io::Result<()> {
+        self.usable()?;
+        join(&mut self.path, self.folder.as_str(), name)?;
+        match fs::remove_file(&self.rt, self.path.as_str()) {
+            Err(error) if error.kind() == ErrorKind::NotFound => Ok(()),
+            removed => removed,
+        }
+    }
+
+    /// Syncs both directories.
+    pub fn sync_both(&mut self) -> io::Result<()> {
+        self.usable()?;
+        self.sync_folder()?;
+        self.sync_chip()
+    }
+
+    /// The chip's words: 256 zero bytes where there is no such file, and a fault where it has another
+    /// length.
+    pub fn words(&mut self) -> io::Result<[u8; 256]> {
+        self.usable()?;
+        join(&mut self.path, self.chip.as_str(), WORDS)?;
+        let mut words = [0u8; 256];
+        let mut file = match fs::open(&self.rt, self.path.as_str()) {
+            Err(error) if error.kind() == ErrorKind::NotFound => return Ok(words),
+            opened => opened?,
+        };
+        file.read_exact(&mut words)?;
+        let mut next = [0u8; 1];
+        if file.read(&mut next)? == 0 {
+            Ok(words)
+        } else {
+            Err(io::Error::from(ErrorKind::InvalidData))
+        }
+    }
+
+    /// Replaces the chip's words by way of a temporary file.
+    pub fn store(&mut self, words: &[u8; 256]) -> io::Result<()> {
+        self.usable()?;
+        join(&mut self.path, self.chip.as_str(), NEW_WORDS)?;
+        join(&mut self.target, self.chip.as_str(), WORDS)?;
+        fs::write(&self.rt, self.path.as_str(), words.as_slice())?;
+        self.sync_path()?;
+        fs::rename(&self.rt, self.path.as_str(), self.target.as_str())?;
+        self.sync_chip()
+    }
+}
+
+fn text_of(alloc: Global, name: &str) -> io::Result<Text> {
+    match Text::from_str(alloc, name) {
+        Ok(name) => Ok(name),
+        Err(NoMemory) => Err(io::Error::from(ErrorKind::OutOfMemory)),
+    }
+}

@@ -1,0 +1,9 @@
+pub mod CallLaws
+pub mod Calls
+pub mod Choosing
+pub mod Coding
+pub mod Content
+pub mod Crash
+pub mod Fails
+pub mod FileList
+pub mod Memory

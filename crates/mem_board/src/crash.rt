@@ -1,0 +1,212 @@
+//! What a crash leaves of a board in memory.
+
+ghost use Rattle.std.specs.Prelude.{◌≡◌, ◌-◌, ◌/◌, ◌%◌, ◌<◌, ◌≤◌, [], OnOk, IfOk, length, drop};
+ghost use Rattle.std.specs.Prelude.{nat_lt};
+ghost use Rattle.mem_board.specs.Calls.{changed_by, now_of, mended};
+ghost use Rattle.mem_board.specs.Content.{image_of};
+ghost use Rattle.mem_board.specs.Crash.{is_certain, choices, written_as, chosen, is_dir_sync};
+ghost use Rattle.mem_board.specs.Crash.{synced_to, next_choice, disk_then, image_at};
+ghost use Rattle.mem_board.specs.Choosing.{choice_of};
+ghost use Rattle.mem_board.specs.Memory.{memory_of, disk_at, started, HasOnly};
+
+use crate::board::MemBoard;
+use crate::call::{Call, Change, Outcome};
+use crate::content::Content;
+use ct_bytes::{Blob, NoMemory, Text};
+use std::alloc::Global;
+use std::collections::VecDeque;
+
+impl Call {
+    // The change is in each image as it is now, if it isn't a write.
+    fn is_certain(&self, synced: bool) -> bool
+        ensures value { result ≡ is_certain synced self.now.change self.now.outcome }
+    {
+        match (&self.change, self.outcome) {
+            (Change::Store(_), Outcome::Done) => true,
+            _ => synced,
+        }
+    }
+
+    // How many outcomes the call has among the images.
+    fn choices(&self, synced: bool) -> u64
+        ensures value { result ≡ choices synced self.now.change self.now.outcome }
+        ensures some { 0 < result }
+    {
+        match &self.change {
+            Change::Write(_, _) => 4,
+            Change::SyncTemp(_) => 1,
+            Change::SyncDir => 1,
+            _ => { if self.is_certain(synced) { 1 } else { 2 } }
+        }
+    }
+
+    fn is_dir_sync(&self) -> bool
+        ensures value { result ≡ is_dir_sync self.now.change self.now.outcome }
+    {
+        matches!(self.change, Change::SyncDir) && self.outcome == Outcome::Done
+    }
+}
+
+// Leaves a written file new, as it was, absent or cut in half.
+fn write_as(
+    alloc: Global,
+    image: &mut Content,
+    digit: u64,
+    name: &Text,
+    bytes: &Blob,
+) -> Result<(), NoMemory>
+    ensures ok { OnOk result
+        (image_of image.new ≡ written_as digit name.now bytes.now (image_of image.old)) }
+{
+    if digit == 0 {
+        image.files.insert(name.copy()?, bytes.copy()?)
+    } else if digit == 1 {
+        Ok(())
+    } else if digit == 2 {
+        image.files.remove(name);
+        Ok(())
+    } else {
+        let bytes = bytes.as_slice();
+        let half = Blob::from_slice(alloc, &bytes[..bytes.len() / 2])?;
+        image.files.insert(name.copy()?, half)
+    }
+}
+
+// Leaves a synced file as it is now.
+fn mend(image: &mut Content, now: &Content, name: &Text) -> Result<(), NoMemory>
+    ensures ok { OnOk result
+        (image_of image.new ≡ mended name.now (image_of now.now) (image_of image.old)) }
+{
+    match now.files.get(name) {
+        Some(bytes) => image.files.insert(name.copy()?, bytes.copy()?),
+        None => {
+            image.files.remove(name);
+            Ok(())
+        }
+    }
+}
+
+// Leaves a call in an image by a digit below its choices.
+fn leave(
+    alloc: Global,
+    image: &mut Content,
+    now: &Content,
+    call: &Call,
+    synced: bool,
+    digit: u64,
+) -> Result<(), NoMemory>
+    ensures ok { OnOk result (image_of image.new
+        ≡ chosen synced call.now.change call.now.outcome (image_of now.now) digit
+        (image_of image.old)) }
+{
+    match &call.change {
+        Change::Write(name, bytes) => write_as(alloc, image, digit, name, bytes),
+        Change::SyncTemp(name) => {
+            if call.outcome == Outcome::Done && (synced || image.files.get(name).is_some()) {
+                mend(image, now, name)
+            } else {
+                Ok(())
+            }
+        }
+        Change::SyncDir => Ok(()),
+        change => {
+            if call.is_certain(synced) {
+                image.change_by(change, call.outcome)
+            } else if digit == 0 {
+                image.change(change)
+            } else {
+                Ok(())
+            }
+        }
+    }
+}
+
+// How many calls there were up to the last sync of the directory, of those from `newest` on.
+fn synced_calls(calls: &VecDeque<Call>, newest: usize) -> usize
+    requires { newest ≤ length calls.now.items }
+    ensures value { result ≡ synced_to (drop newest calls.now.items) }
+{
+    for at in newest..calls.len() {
+        if calls[at].is_dir_sync() {
+            return calls.len() - at;
+        }
+    }
+    0
+}
+
+/// An image in the making: what a crash leaves by the calls so far, what is there after them, and the
+/// digits that are left to choose by.
+#[derive(Drop)]
+struct Crash {
+    alloc: Global,
+    image: Content,
+    content: Content,
+    pick: u64,
+}
+
+impl Crash {
+    // One call more.
+    fn step(&mut self, call: &Call, synced: bool) -> Result<(), NoMemory>
+        ensures choice { OnOk result (choice_of self.new
+            ≡ next_choice synced call.now (image_of self.old.content) (choice_of self.old)) }
+        ensures content { OnOk result (image_of self.new.content
+            ≡ changed_by call.now.change call.now.outcome (image_of self.old.content)) }
+    {
+        let choices = call.choices(synced);
+        let digit = self.pick % choices;
+        self.pick /= choices;
+        leave(
+            self.alloc,
+            &mut self.image,
+            &self.content,
+            call,
+            synced,
+            digit,
+        )?;
+        self.content.change_by(&call.change, call.outcome)
+    }
+}
+
+impl MemBoard {
+    // The image that a crash leaves after the first `tick` calls.
+    fn crash_image(&self, tick: usize, pick: u64) -> Result<Content, NoMemory>
+        requires { tick ≤ length self.now.calls.items }
+        ensures value { IfOk result (λ content.
+            image_of content ≡ image_at (memory_of self.now) tick pick) }
+    {
+        let newest = self.calls.len() - tick;
+        let synced = synced_calls(&self.calls, newest);
+        let mut crash = Crash {
+            alloc: self.alloc,
+            image: self.first.copy()?,
+            content: self.first.copy()?,
+            pick,
+        };
+        for number in 0..tick {
+            let call = &self.calls[self.calls.len() - 1 - number];
+            crash.step(call, number < synced)?;
+        }
+        Ok(crash.image)
+    }
+
+    /// A board with an image that a crash at this tick may leave, and with no calls that fail.
+    ///
+    /// `pick` chooses among the outcomes of the calls so far: each takes a digit, the oldest the lowest.
+    /// A file that was written is new, as it was, absent or cut in half. A rename, a removal and a failed
+    /// store are done or not, unless the directory was synced later.
+    pub fn crash_at(&self, alloc: Global, tick: u64, pick: u64) -> Result<MemBoard, NoMemory>
+        requires { tick ≤ (disk_at self.now).ticks }
+        ensures starts { IfOk result (λ board.
+            memory_of board ≡ started (image_at (memory_of self.now) tick pick) []) }
+        // A crash at that tick may leave it.
+        ensures left { IfOk result (λ board.
+            (disk_then (memory_of self.now) tick).may_leave (memory_of board).first) }
+        ensures since { IfOk result (λ board.
+            (disk_at self.now).left_since tick (memory_of board).first) }
+        ensures settled { IfOk result (λ board. HasOnly (disk_at board) (memory_of board).first) }
+        ensures no_fault { IfOk result (λ board. board.faults ≡ 0) }
+    {
+        let content = self.crash_image(tick as usize, pick)?;
+        MemBoard::begin(alloc, content, Vec::new(alloc))
+    }
+}
