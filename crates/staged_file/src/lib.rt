@@ -1,0 +1,10 @@
+//! A file that is replaced or removed whole or not at all, whenever a crash comes.
+#![tactic(auto)]
+
+mod putting;
+mod removing;
+#[cfg(test)]
+mod tests;
+
+pub use putting::put;
+pub use removing::remove;
