@@ -1,0 +1,5 @@
+pub mod Lines
+pub mod Exchange
+pub mod Served
+pub mod Cut
+pub mod Memory
