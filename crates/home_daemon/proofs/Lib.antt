@@ -1,0 +1,6 @@
+mod Puts
+mod Found
+mod Turning
+mod Going
+mod Continuing
+pub mod Outputs

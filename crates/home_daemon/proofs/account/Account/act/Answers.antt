@@ -1,0 +1,48 @@
+use Rattle.std.proofs.Common.{◌≡◌, ◌<◌, ◌^◌, max, ℕ, List, ◌∷◌, [], ◌++◌, refl, sym, subst, ap, ◌∙◌, arith}
+use Rattle.std.proofs.lemmas.Grind.{common_steps}
+use Rattle.factor_machine.specs.declared.entry.Turn.TheVariants.{Act}
+use Rattle.factor_machine.specs.declared.entry.Entry.{Entry}
+use Rattle.factor_machine.specs.declared.entry.Answer.{Answer}
+use Rattle.factor_machine.specs.Step.{Turned}
+use Rattle.home_daemon.specs.Home.{user_in}
+use Rattle.home_daemon.specs.Turns.{answer_of, cut_moment}
+use Rattle.home_daemon.proofs.Going.{legal_turn, held_turn, explained_turn}
+use Rattle.home_daemon.proofs.account.Account.act.Goals as goal
+
+-- the entry that is noted is the turn
+pub returns-clause-turn : goal.returns-clause-turn
+returns-clause-turn g c =
+    let before = c.args.self.now in
+    let taken = c.take_turn-told in
+    let turn : Entry = record {
+      caller = 0;
+      given = c.min-given.result;
+      moment = c.max-moment.result;
+      told = taken.result.0;
+      turn = Act c.args.request;
+      answer = c.answer.result;
+      place = c.if-self-steps_before.place;
+    } in
+    let end = taken.result.1 in
+    let answered : turn.answer ≡ answer_of end c.in_ok-name.name = c.answer.ensures.value in
+    let given : turn.given < 2 ^ 40 = grind (arith, common_steps, c.min-given.ensures) in
+    let cut : turn.given ≡ cut_moment c.args.number = grind (arith, common_steps, c.min-given.ensures) in
+    let moment : turn.moment ≡ max before.last turn.given = grind (arith, common_steps, c.max-moment.ensures) in
+    let same_name : c.in_ok-name.name ≡ c.in_ok-copy.copy = c.in_ok-name.ensures.value ∙ sym c.in_ok-copy.ensures.value in (
+      turn,
+      record {
+        by = refl;
+        given = cut;
+        asked = refl;
+        answered = answered ∙ (ap (answer_of end) same_name ∙ sym c.answer-2.ensures.value);
+      },
+      record {
+        name = refl;
+        book = c.note.ensures.added ∙ ap (λ (entries : List Entry). entries ++ turn ∷ []) c.reserve.ensures.items;
+        legal = λ era. legal_turn era before.home taken.new.home before.last turn given moment
+            (subst (λ (answer : Answer). Turned era (user_in before.home turn.moment) turn.told turn.turn answer (user_in taken.new.home turn.moment))
+            (sym answered) (taken.ensures.turned era c.args.request c.in_ok-name.name turn.moment));
+        content = held_turn _ _ before.stash c.in_ok-name.name before.home taken.new.home before.last end turn answered taken.ensures.content;
+        cause = explained_turn _ _ end c.in_ok-name.name turn answered taken.ensures.cause;
+      },
+    )
