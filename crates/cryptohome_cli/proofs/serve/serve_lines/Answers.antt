@@ -1,0 +1,28 @@
+use Rattle.std.proofs.Common.{◌≡◌, [], sym, subst}
+use Rattle.home_daemon.specs.declared.account.Account.{Account}
+use Rattle.home_daemon.specs.Answered.{Answered, account_of}
+use Rattle.home_daemon.proofs.Outputs.{answered_none}
+use Rattle.cryptohome_cli.proofs.serve.serve_lines.Goals as goal
+
+-- what the service has answered since it began
+pub returns : goal.returns
+returns g c =
+    let served = c.serve_client-end.ensures.served in
+    let start = c.new-service.result in
+    let end = account_of c.serve_client-end.new.service in
+    let disk = g.B.Board.disk in
+    let faults = g.B.Board.faults in
+    let all = served.1.answered start [] (answered_none disk faults (account_of start)) in
+    let from_account = subst (λ (first : Account _). Answered disk faults first end served.0) c.new-service.ensures.account all in
+    record {
+      serves = record {
+        exchanges = served.0;
+        answered = subst (λ (last : Account _). Answered disk faults c.args.account last served.0)
+            (sym c.into_account.ensures.account) from_account;
+        moments = served.1.moments;
+        lines = served.1.lines;
+        replies = served.1.written;
+        source_cause = c.serve_client-end.ensures.source_fault;
+        sink_cause = c.serve_client-end.ensures.sink_fault;
+      };
+    }

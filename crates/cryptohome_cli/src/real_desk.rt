@@ -1,0 +1,146 @@
+//! The desk over the real system. It tells nothing but the moment, and counts each fault.
+
+ghost use Rattle.std.specs.Prelude.{None, ⊤};
+
+use board_model::{BoardFault, FileBoard};
+use fault_count::{Failed, FaultCount};
+use home_daemon::{Client, Desk, DeskFault};
+use request_loop::{Clock, Sink, Source};
+use std::alloc::Global;
+use std::io::{Read, Write};
+use std::time::SystemTime;
+
+/// The desk of the program: directories of the system, standard input and output, and its clock.
+#[derive(Drop)]
+pub struct RealDesk {
+    rt: HostRuntime,
+    moment: u64,
+    faults: FaultCount,
+}
+
+impl RealDesk {
+    /// The desk, at this moment.
+    pub fn new(rt: HostRuntime) -> RealDesk {
+        RealDesk {
+            rt,
+            moment: seconds(&rt),
+            faults: FaultCount::new(),
+        }
+    }
+}
+
+// The seconds since 1970, or 0 where the clock gives none.
+fn seconds(rt: &HostRuntime) -> u64 {
+    let Ok(now) = SystemTime::now(rt) else {
+        return 0;
+    };
+    match now.duration_since(SystemTime::UNIX_EPOCH) {
+        Ok(since) => since.as_secs(),
+        Err(_) => 0,
+    }
+}
+
+/// Standard input.
+#[derive(Drop)]
+pub struct Input {
+    rt: HostRuntime,
+    faults: FaultCount,
+}
+
+/// Standard output.
+#[derive(Drop)]
+pub struct Output {
+    rt: HostRuntime,
+    faults: FaultCount,
+}
+
+/// The system's clock, in seconds since 1970.
+#[derive(Drop)]
+pub struct SystemClock {
+    rt: HostRuntime,
+}
+
+impl Source for Input {
+    ghost left = { λ s. None };
+
+    ghost faults = { λ s. s.faults };
+
+    fn read(&mut self, buf: &mut [u8]) -> Result<usize, Failed> {
+        match self.rt.reader().read(buf) {
+            Ok(count) => Ok(count),
+            Err(_) => Err(self.faults.raise()),
+        }
+    }
+}
+
+impl Sink for Output {
+    ghost written = { λ s. None };
+
+    ghost faults = { λ s. s.faults };
+
+    fn write(&mut self, bytes: &[u8]) -> Result<(), Failed> {
+        match self.rt.stdout().write_all(bytes) {
+            Ok(()) => Ok(()),
+            Err(_) => Err(self.faults.raise()),
+        }
+    }
+}
+
+impl Clock for SystemClock {
+    ghost given = { λ s. None };
+
+    fn now(&mut self) -> u64 {
+        seconds(&self.rt)
+    }
+}
+
+impl Desk for RealDesk {
+    type Board = FileBoard<HostRuntime>;
+
+    type Source = Input;
+
+    type Sink = Output;
+
+    type Clock = SystemClock;
+
+    ghost moment = { λ d. d.moment };
+
+    ghost board = { λ d b. ⊤ };
+
+    ghost clients = { λ d clients. ⊤ };
+
+    ghost faults = { λ d. d.faults };
+
+    fn start_moment(&mut self) -> u64 {
+        self.moment
+    }
+
+    fn open_board(&mut self, alloc: Global, dir: &str) -> Result<Self::Board, DeskFault> {
+        match FileBoard::open(self.rt, alloc, dir) {
+            Ok(board) => Ok(board),
+            Err(BoardFault::NoMemory) => Err(DeskFault::NoMemory),
+            Err(BoardFault::Failed) => {
+                let _ = self.faults.raise();
+                Err(DeskFault::Failed)
+            }
+        }
+    }
+
+    fn open_client(
+        &mut self,
+        _alloc: Global,
+        _number: u32,
+    ) -> Result<Client<Input, Output, SystemClock>, DeskFault> {
+        Ok(Client {
+            source: Input {
+                rt: self.rt,
+                faults: FaultCount::new(),
+            },
+            sink: Output {
+                rt: self.rt,
+                faults: FaultCount::new(),
+            },
+            clock: SystemClock { rt: self.rt },
+        })
+    }
+}
