@@ -1,0 +1,5 @@
+pub mod Field128
+pub mod Ghash
+pub mod Gcm
+pub mod Horner
+pub mod Sizes
