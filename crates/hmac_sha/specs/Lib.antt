@@ -1,0 +1,3 @@
+pub mod Hmac
+pub mod Pieces
+pub mod Pbkdf2

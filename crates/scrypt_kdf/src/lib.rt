@@ -1,0 +1,17 @@
+//! scrypt, equal to its standard.
+#![tactic(auto)]
+
+mod block_mix;
+mod blocks;
+mod derivation;
+mod fault;
+mod params;
+mod romix;
+mod salsa;
+#[cfg(test)]
+mod tests;
+mod words;
+
+pub use derivation::{derive, scrypt};
+pub use fault::ScryptFault;
+pub use params::Params;

@@ -1,0 +1,165 @@
+//! Published vectors and refusals, by the program itself.
+
+use crate::{Params, ScryptFault, derive, scrypt};
+
+// RFC 7914, section 12: the first three vectors.
+#[test]
+fn keys_are_those_of_the_published_vectors(rt: HostRuntime) {
+    let vectors: [(&[u8], &[u8], Params, [u8; 64]); 3] = [
+        (
+            b"",
+            b"",
+            Params { n: 16, r: 1, p: 1 },
+            [
+                0x77, 0xd6, 0x57, 0x62, 0x38, 0x65, 0x7b, 0x20, 0x3b, 0x19, 0xca, 0x42, 0xc1, 0x8a,
+                0x04, 0x97, 0xf1, 0x6b, 0x48, 0x44, 0xe3, 0x07, 0x4a, 0xe8, 0xdf, 0xdf, 0xfa, 0x3f,
+                0xed, 0xe2, 0x14, 0x42, 0xfc, 0xd0, 0x06, 0x9d, 0xed, 0x09, 0x48, 0xf8, 0x32, 0x6a,
+                0x75, 0x3a, 0x0f, 0xc8, 0x1f, 0x17, 0xe8, 0xd3, 0xe0, 0xfb, 0x2e, 0x0d, 0x36, 0x28,
+                0xcf, 0x35, 0xe2, 0x0c, 0x38, 0xd1, 0x89, 0x06,
+            ],
+        ),
+        (
+            b"password",
+            b"NaCl",
+            Params {
+                n: 1024,
+                r: 8,
+                p: 16,
+            },
+            [
+                0xfd, 0xba, 0xbe, 0x1c, 0x9d, 0x34, 0x72, 0x00, 0x78, 0x56, 0xe7, 0x19, 0x0d, 0x01,
+                0xe9, 0xfe, 0x7c, 0x6a, 0xd7, 0xcb, 0xc8, 0x23, 0x78, 0x30, 0xe7, 0x73, 0x76, 0x63,
+                0x4b, 0x37, 0x31, 0x62, 0x2e, 0xaf, 0x30, 0xd9, 0x2e, 0x22, 0xa3, 0x88, 0x6f, 0xf1,
+                0x09, 0x27, 0x9d, 0x98, 0x30, 0xda, 0xc7, 0x27, 0xaf, 0xb9, 0x4a, 0x83, 0xee, 0x6d,
+                0x83, 0x60, 0xcb, 0xdf, 0xa2, 0xcc, 0x06, 0x40,
+            ],
+        ),
+        (
+            b"pleaseletmein",
+            b"SodiumChloride",
+            Params {
+                n: 16384,
+                r: 8,
+                p: 1,
+            },
+            [
+                0x70, 0x23, 0xbd, 0xcb, 0x3a, 0xfd, 0x73, 0x48, 0x46, 0x1c, 0x06, 0xcd, 0x81, 0xfd,
+                0x38, 0xeb, 0xfd, 0xa8, 0xfb, 0xba, 0x90, 0x4f, 0x8e, 0x3e, 0xa9, 0xb5, 0x43, 0xf6,
+                0x54, 0x5d, 0xa1, 0xf2, 0xd5, 0x43, 0x29, 0x55, 0x61, 0x3f, 0x0f, 0xcf, 0x62, 0xd4,
+                0x97, 0x05, 0x24, 0x2a, 0x9a, 0xf9, 0xe6, 0x1e, 0x85, 0xdc, 0x0d, 0x65, 0x1e, 0x40,
+                0xdf, 0xcf, 0x01, 0x7b, 0x45, 0x57, 0x58, 0x87,
+            ],
+        ),
+    ];
+    for (password, salt, params, want) in vectors {
+        let mut out = [0u8; 64];
+        let done = scrypt(rt.alloc(), password, salt, params, &mut out);
+        assert_eq!(rt; done, Ok(()), "at n = {}", params.n);
+        assert_eq!(rt; out, want, "at n = {}", params.n);
+    }
+}
+
+// The values are those of OpenSSL 3.0, through Python's `hashlib.scrypt`, with n = 2 and n = 16.
+#[test]
+fn derived_keys_are_those_of_openssl(rt: HostRuntime) {
+    let keys: [(u8, [u8; 64]); 2] = [
+        (
+            1,
+            [
+                0xb0, 0x77, 0xaf, 0xb9, 0xb0, 0xf7, 0x00, 0xaa, 0x29, 0x54, 0x8b, 0x38, 0x06, 0x4e,
+                0x08, 0xcc, 0x06, 0x45, 0xc9, 0xd2, 0x47, 0xfd, 0x1b, 0x6a, 0x96, 0xf8, 0x54, 0x93,
+                0xe2, 0x88, 0x53, 0xe5, 0x6f, 0xcb, 0x0a, 0x14, 0x0d, 0x5f, 0x48, 0xea, 0x3a, 0x17,
+                0xa8, 0x7a, 0x3d, 0x09, 0xf1, 0x73, 0x4f, 0xe7, 0x5a, 0xcd, 0xb0, 0xa1, 0x69, 0x5d,
+                0x63, 0xe2, 0x4e, 0xd3, 0x96, 0x9c, 0x58, 0x13,
+            ],
+        ),
+        (
+            4,
+            [
+                0xcc, 0xc8, 0xa6, 0x69, 0x22, 0x4d, 0xdd, 0xc5, 0x28, 0x5f, 0x00, 0x44, 0xcb, 0x54,
+                0x2e, 0x2c, 0x80, 0x03, 0x2b, 0x5f, 0x78, 0x41, 0xde, 0xaf, 0xe6, 0xbe, 0x4f, 0x35,
+                0xc8, 0xf5, 0xfa, 0xb5, 0xe0, 0xe9, 0x27, 0x45, 0xac, 0xc4, 0xb1, 0x2c, 0xd5, 0xfd,
+                0xe8, 0xda, 0xd3, 0x75, 0xce, 0x29, 0xfc, 0x70, 0x0e, 0x94, 0xf3, 0x3c, 0x72, 0xe8,
+                0x39, 0xcf, 0x28, 0xe3, 0x0f, 0x5a, 0xf9, 0x38,
+            ],
+        ),
+    ];
+    let salt = [0, 1, 2, 3, 4, 5, 6, 7, 8, 9, 10, 11, 12, 13, 14, 15];
+    for (cost, want) in keys {
+        assert_eq!(rt;
+            derive(rt.alloc(), b"long pass", &salt, cost),
+            Ok(want),
+            "at cost {cost}"
+        );
+    }
+}
+
+// Each limit from both sides. The bounds on n and r are those of RFC 7914, section 2, and of the
+// program: n up to 2^20, r up to 8, p up to 64, and 1 to 1,024 bytes of output.
+#[test]
+fn parameters_are_refused_outside_their_bounds_alone(rt: HostRuntime) {
+    // n, r, p and the output's length
+    let allowed: [(u64, u32, u32, usize); 8] = [
+        (2, 2, 1, 32),
+        (1 << 15, 1, 1, 32),
+        (1 << 16, 2, 1, 32),
+        (16, 1, 1, 32),
+        (16, 8, 1, 32),
+        (16, 2, 64, 32),
+        (16, 2, 1, 1),
+        (16, 2, 1, 1024),
+    ];
+    let refused: [(u64, u32, u32, usize); 12] = [
+        (0, 2, 1, 32),
+        (1, 2, 1, 32),
+        (3, 2, 1, 32),
+        ((1 << 20) - 1, 2, 1, 32),
+        (1 << 21, 2, 1, 32),
+        (1 << 16, 1, 1, 32),
+        (16, 0, 1, 32),
+        (16, 9, 1, 32),
+        (16, 2, 0, 32),
+        (16, 2, 65, 32),
+        (16, 2, 1, 0),
+        (16, 2, 1, 1025),
+    ];
+    let mut out = [7u8; 1025];
+    for (n, r, p, len) in refused {
+        let len = len.min(out.len());
+        let params = Params { n, r, p };
+        let done = scrypt(rt.alloc(), b"password", b"salt", params, &mut out[..len]);
+        assert_eq!(rt;
+            done,
+            Err(ScryptFault::BadParams),
+            "{params:?} for {len} bytes"
+        );
+        assert_eq!(rt; out, [7u8; 1025], "{params:?} for {len} bytes");
+    }
+    for (n, r, p, len) in allowed {
+        let len = len.min(out.len());
+        let params = Params { n, r, p };
+        let done = scrypt(rt.alloc(), b"password", b"salt", params, &mut out[..len]);
+        assert_eq!(rt; done, Ok(()), "{params:?} for {len} bytes");
+    }
+    // At the highest n a call would take 256 MiB, so the bounds alone are asked.
+    let most = Params {
+        n: 1 << 20,
+        r: 2,
+        p: 1,
+    };
+    assert!(rt; most.is_allowed(32));
+}
+
+// Where the allocation is made to fail, the output stays as it was.
+#[test]
+fn want_of_memory_leaves_the_output_as_it_was(rt: HostRuntime) {
+    let params = Params { n: 16, r: 1, p: 1 };
+    let mut out = [7u8; 64];
+    match scrypt(rt.alloc(), b"", b"", params, &mut out) {
+        Ok(()) => assert_eq!(rt; out[0], 0x77),
+        Err(fault) => {
+            assert_eq!(rt; fault, ScryptFault::NoMemory);
+            assert_eq!(rt; out, [7u8; 64]);
+        }
+    }
+}
