@@ -1,0 +1,15 @@
+//! The chip's log of two: the last changes of the tree's root.
+#![tactic(auto)]
+
+mod answer;
+mod entries;
+mod entry;
+
+pub use answer::LogAnswer;
+pub use entries::Log;
+pub use entry::{
+    BLANK, INSERT, LogEntry, NO_VERDICT, REMOVE, RESET, RESET_TREE, RIGHT, TRY, WRONG,
+};
+
+#[cfg(test)]
+mod tests;

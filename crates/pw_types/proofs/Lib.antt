@@ -1,0 +1,2 @@
+pub mod DelayLemmas
+pub mod ScheduleLemmas

@@ -1,0 +1,15 @@
+//! Stamps, delay schedules, and the rule by which a try for a credential waits.
+#![tactic(auto)]
+
+mod delay;
+mod laws;
+mod schedule;
+mod stamp;
+
+pub use delay::{Readiness, ready};
+pub use laws::{deciding_pair, limit_locks, more_tries_wait_longer};
+pub use schedule::{LOCKED, MOST_ATTEMPTS, MOST_PAIRS, Schedule, ScheduleFault};
+pub use stamp::Stamp;
+
+#[cfg(test)]
+mod tests;

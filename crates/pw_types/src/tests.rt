@@ -1,0 +1,91 @@
+//! Schedules that are refused, and the default one around each of its edges.
+
+use crate::delay::{Readiness, ready};
+use crate::schedule::{LOCKED, Schedule, ScheduleFault};
+use crate::stamp::Stamp;
+
+#[test]
+fn a_list_that_is_no_schedule_is_refused_at_its_first_bad_pair(rt: HostRuntime) {
+    let many = [(1, 1); 17];
+    let rows: [(&[(u32, u32)], usize); 9] = [
+        (&[], 0),
+        (&many, 0),
+        (&[(5, 30), (5, 60)], 2),
+        (&[(5, 30)], 1),
+        (&[(0, LOCKED)], 1),
+        (&[(1_001, LOCKED)], 1),
+        (&[(3, LOCKED), (5, LOCKED)], 1),
+        (&[(5, 30), (6, 30), (7, LOCKED)], 2),
+        (&[(5, 30), (6, 60), (7, 90)], 3),
+    ];
+    for (pairs, place) in rows {
+        assert_eq!(rt;
+            Schedule::new(pairs),
+            Err(ScheduleFault::BadSchedule(place)),
+            "place {place}"
+        );
+    }
+}
+
+#[test]
+fn under_one_pair_the_third_wrong_try_locks(rt: HostRuntime) {
+    let pairs = [(3, LOCKED)];
+    let Ok(schedule) = Schedule::new(&pairs) else {
+        assert!(rt; false, "the pair is a schedule");
+        return;
+    };
+    assert_eq!(rt; schedule.pairs(), pairs.as_slice());
+    assert_eq!(rt; schedule.limit(), 3);
+    let stamp = Stamp { boot: 1, at: 1_000 };
+    for (wrong, want) in [
+        (0, Readiness::Ready),
+        (2, Readiness::Ready),
+        (3, Readiness::Locked),
+    ] {
+        assert_eq!(rt;
+            ready(&schedule, wrong, stamp, stamp, 0),
+            want,
+            "{wrong} wrong tries"
+        );
+    }
+}
+
+// Wrong tries, whether the boot began after the last of them, the moment of the next, and the answer. The
+// last wrong try was at moment 1000, and a later boot began at moment 2000.
+const EDGES: [(u32, bool, u64, Readiness); 17] = [
+    (0, false, 1_000, Readiness::Ready),
+    (4, false, 1_000, Readiness::Ready),
+    (5, false, 1_029, Readiness::Delayed(1_030)),
+    (5, false, 1_030, Readiness::Ready),
+    (6, false, 1_059, Readiness::Delayed(1_060)),
+    (6, false, 1_060, Readiness::Ready),
+    (7, false, 1_299, Readiness::Delayed(1_300)),
+    (7, false, 1_300, Readiness::Ready),
+    (8, false, 1_899, Readiness::Delayed(1_900)),
+    (8, false, 1_900, Readiness::Ready),
+    (9, false, 4_599, Readiness::Delayed(4_600)),
+    (9, false, 4_600, Readiness::Ready),
+    (10, false, 1_000_000, Readiness::Locked),
+    (5, true, 2_029, Readiness::Delayed(2_030)),
+    (5, true, 2_030, Readiness::Ready),
+    (9, true, 5_599, Readiness::Delayed(5_600)),
+    (10, true, 1_000_000, Readiness::Locked),
+];
+
+#[test]
+fn the_default_schedule_waits_at_each_of_its_edges(rt: HostRuntime) {
+    let schedule = Schedule::usual();
+    let last = Stamp { boot: 7, at: 1_000 };
+    for (wrong, restarted, at, want) in EDGES {
+        let now = Stamp {
+            boot: if restarted { 8 } else { 7 },
+            at,
+        };
+        let start = if restarted { 2_000 } else { 900 };
+        assert_eq!(rt;
+            ready(&schedule, wrong, last, now, start),
+            want,
+            "{wrong} wrong tries at {at}"
+        );
+    }
+}
