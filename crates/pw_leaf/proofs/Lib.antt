@@ -1,0 +1,4 @@
+pub mod Cases
+pub mod FieldLemmas
+pub mod ReadLemmas
+pub mod RecordLemmas
