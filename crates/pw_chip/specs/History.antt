@@ -1,0 +1,56 @@
+-- A leaf's count, in words about the replies: the wrong tries since its count began.
+use Rattle.std.specs.Prelude.{ℕ, ◌+◌, Bool, false, Option, None, List, [], ◌∷◌, if◌then◌else◌, ◌==◌}
+use Rattle.pw_types.specs.declared.stamp.Stamp.{Stamp}
+use Rattle.pw_leaf.specs.Contents.{Contents}
+use Rattle.pw_chip.specs.declared.reply.Reply.{Reply}
+use Rattle.pw_chip.specs.declared.reply.Reply.TheVariants.{Inserted, Released, Cleared, Wrong}
+use Rattle.pw_chip.specs.State.{ChipState, booted}
+use Rattle.pw_chip.specs.Calls.{CallData, Insert, Try, Reset}
+use Rattle.pw_chip.specs.Step.{step}
+use Rattle.pw_chip.specs.Ledger.{leaves_after, Event, Boots, Calls, Ledger, noted_call, noted_boot}
+use Rattle.pw_chip.specs.Law.{words_after, ledger_after}
+
+pub record Noted : Type 0 where
+  pub stamp : Stamp
+  pub call : CallData
+  pub reply : Reply
+
+-- the ledger's leaves after these, the newest first
+unfoldable pub leaves_of : List Noted → ℕ → Option Contents
+leaves_of [] = λ i. None
+leaves_of (noted ∷ older) = leaves_after noted.stamp noted.call noted.reply (leaves_of older)
+
+-- a wrong try at the label
+unfoldable pub is_wrong_at : ℕ → CallData → Reply → Bool
+is_wrong_at label (Try l aux leaf les) (Wrong r) = label == l
+is_wrong_at label _ _ = false
+
+-- an insert, a right try or a reset at the label
+unfoldable pub begins_at : ℕ → CallData → Reply → Bool
+begins_at label (Insert l aux mac les hes reset schedule iv) (Inserted r) = label == l
+begins_at label (Try l aux leaf les) (Released r hes) = label == l
+begins_at label (Reset l aux leaf reset) (Cleared r) = label == l
+begins_at label _ _ = false
+
+-- the wrong tries at the label since its count began
+unfoldable pub wrongs_since : ℕ → List Noted → ℕ
+wrongs_since label [] = 0
+wrongs_since label (noted ∷ older) =
+    if begins_at label noted.call noted.reply then 0
+    else if is_wrong_at label noted.call noted.reply then wrongs_since label older + 1
+    else wrongs_since label older
+
+-- ---- the history of a run
+
+-- what was answered in these events, the newest first, before what was answered already
+unfoldable pub history_after : ChipState → Ledger → List Event → List Noted → List Noted
+history_after w ledger [] history = history
+history_after w ledger (Boots moment ∷ events) history = history_after (booted w moment) (noted_boot ledger moment) events history
+history_after w ledger (Calls call now ∷ events) history =
+    history_after (step w call now).1 (noted_call ledger call now (step w call now).0) events
+    (record { stamp = record { boot = ledger.boot; at = now }; call = call; reply = (step w call now).0 } ∷ history)
+
+-- the ledger after these events
+unfoldable pub ledger_in_the_end : ChipState → Ledger → List Event → Ledger
+ledger_in_the_end w ledger [] = ledger
+ledger_in_the_end w ledger (event ∷ events) = ledger_in_the_end (words_after w event) (ledger_after w ledger event) events

@@ -1,0 +1,9 @@
+pub mod State
+pub mod Calls
+pub mod Step
+pub mod Ledger
+pub mod Law
+pub mod History
+pub mod CallOf
+pub mod Held
+pub mod WordsBytes
