@@ -1,0 +1,9 @@
+-- Each turn drops one entry.
+use Rattle.std.proofs.Common.{length}
+use Rattle.link_chain.proofs.chain.Chain.drop.Given as goal
+
+abbrev pub invariant-loop-entry : goal.invariant-loop-entry
+invariant-loop-entry g l = Unit {0}
+
+abbrev pub decreases-loop-entry : goal.decreases-loop-entry
+decreases-loop-entry g l = length l.stack

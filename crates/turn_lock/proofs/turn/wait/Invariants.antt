@@ -1,0 +1,7 @@
+-- A look that finds another ticket leaves the seat as it was.
+use Rattle.std.proofs.Common.{◌≡◌}
+use Rattle.turn_lock.proofs.turn.wait.Given as goal
+
+abbrev pub invariant-loop : goal.invariant-loop
+invariant-loop g l =
+    (l.place.table_id ≡ l.initial.place.table_id) × (l.place.me ≡ l.initial.place.me)
