@@ -17,7 +17,7 @@ fn has<B: Board>(alloc: Global, board: &mut B, name: &str, want: &str) -> Result
 #[test]
 fn each_call_reaches_the_directory(rt: HostRuntime) -> Outcome {
     let alloc = rt.alloc();
-    let Ok(mut board) = FileBoard::open(rt, alloc, "state//") else {
+    let Ok(mut board) = FileBoard::open(rt, alloc, "calls//") else {
         return Err(test::Fail::new("the directory can't be made"));
     };
     assert_eq!(rt; board.nv_load()?, [0; 256]);
@@ -28,9 +28,9 @@ fn each_call_reaches_the_directory(rt: HostRuntime) -> Outcome {
     board.sync_dir()?;
     assert!(rt; has(alloc, &mut board, "a", "entire")?);
     assert!(rt; has(alloc, &mut board, "tmp-a", "-")?);
-    assert_eq!(rt; fs::read(&rt, "state/a")?.as_slice(), b"entire".as_slice());
+    assert_eq!(rt; fs::read(&rt, "calls/a")?.as_slice(), b"entire".as_slice());
     assert_eq!(rt;
-        fs::read(&rt, "state.chip/words")?.as_slice(),
+        fs::read(&rt, "calls.chip/words")?.as_slice(),
         [7u8; 256].as_slice()
     );
     assert_eq!(rt; board.nv_load()?, [7; 256]);
@@ -43,10 +43,10 @@ fn each_call_reaches_the_directory(rt: HostRuntime) -> Outcome {
 #[test]
 fn a_read_gives_the_first_bytes(rt: HostRuntime) -> Outcome {
     let alloc = rt.alloc();
-    let Ok(mut board) = FileBoard::open(rt, alloc, "state") else {
+    let Ok(mut board) = FileBoard::open(rt, alloc, "bytes") else {
         return Err(test::Fail::new("the directory can't be made"));
     };
-    fs::write(&rt, "state/a", b"entire".as_slice())?;
+    fs::write(&rt, "bytes/a", b"entire".as_slice())?;
     let Some(front) = board.read(alloc, "a", 3)? else {
         return Err(test::Fail::new("a is absent"));
     };
@@ -57,13 +57,13 @@ fn a_read_gives_the_first_bytes(rt: HostRuntime) -> Outcome {
 #[test]
 fn only_regular_files_are_listed(rt: HostRuntime) -> Outcome {
     let alloc = rt.alloc();
-    let Ok(mut board) = FileBoard::open(rt, alloc, "state") else {
+    let Ok(mut board) = FileBoard::open(rt, alloc, "names") else {
         return Err(test::Fail::new("the directory can't be made"));
     };
-    for name in ["state/b", "state/a"] {
+    for name in ["names/b", "names/a"] {
         fs::write(&rt, name, b"".as_slice())?;
     }
-    fs::create_dir(&rt, "state/folder")?;
+    fs::create_dir(&rt, "names/folder")?;
     let names = board.list(alloc)?;
     assert_eq!(rt; names.len(), 2);
     for (name, want) in names.iter().zip(["a", "b"]) {
@@ -77,18 +77,18 @@ fn only_regular_files_are_listed(rt: HostRuntime) -> Outcome {
 #[test]
 fn a_words_file_of_another_length_fails(rt: HostRuntime) -> Outcome {
     let alloc = rt.alloc();
-    let Ok(mut board) = FileBoard::open(rt, alloc, "state") else {
+    let Ok(mut board) = FileBoard::open(rt, alloc, "chips") else {
         return Err(test::Fail::new("the directory can't be made"));
     };
     for length in [0, 255, 257] {
         let bytes = [0u8; 257];
-        fs::write(&rt, "state.chip/words", &bytes[..length])?;
+        fs::write(&rt, "chips.chip/words", &bytes[..length])?;
         assert!(rt; board.nv_load().is_err(), "{length} bytes");
     }
     board.nv_store(&[1; 256])?;
     assert_eq!(rt; board.nv_load()?, [1; 256]);
-    fs::remove_file(&rt, "state.chip/words")?;
-    fs::create_dir(&rt, "state.chip/words")?;
+    fs::remove_file(&rt, "chips.chip/words")?;
+    fs::create_dir(&rt, "chips.chip/words")?;
     assert!(rt; board.nv_load().is_err());
     Ok(())
 }
