@@ -1,6 +1,9 @@
 //! The board over a real directory. It tells nothing, and counts each fault.
 
-ghost use Rattle.std.specs.Prelude.{◌≡◌, IfOk, OnOk, OnErr, IsErr, IsErrOf};
+ghost use Rattle.std.specs.Prelude.{◌≡◌, ◌↔◌, false, IsTrue, IfOk, OnOk, OnErr, IsErr, IsErrOf};
+ghost use Rattle.std.specs.Prelude.{IsSorted};
+ghost use Rattle.std.specs.Ordering.{nat_cmp};
+ghost use Rattle.std.specs.Cmp.Lexicographic.{slice_cmp};
 ghost use Rattle.fault_count.specs.Causes.{HasCause};
 ghost use Rattle.board_model.specs.Disk.{untold};
 
@@ -21,6 +24,7 @@ use std::rt::Files;
 pub struct FileBoard<R> {
     folder: RealFolder<R>,
     faults: FaultCount,
+    lost: bool,
 }
 
 // Counts a fault where there is one.
@@ -35,6 +39,7 @@ fn counted<T: Drop>(faults: &mut FaultCount, outcome: io::Result<T>) -> Result<T
 
 // The same where want of memory is an answer of its own.
 fn answered<T: Drop>(faults: &mut FaultCount, outcome: io::Result<T>) -> Result<T, BoardFault>
+    ensures value { IfOk result (λ value. outcome ≡ Ok value) }
     ensures cause { HasCause faults.old faults.new (IsErrOf result BoardFault.Failed) }
 {
     match outcome {
@@ -48,21 +53,74 @@ fn answered<T: Drop>(faults: &mut FaultCount, outcome: io::Result<T>) -> Result<
 }
 
 impl<R: Files + AllocGlobal + Clone + Drop> FileBoard<R> {
+    ghost use Rattle.board_model.specs.RealBoard.{faults_of, is_lost};
+
     /// Opens the directory `dir`, without the slashes at its end, and makes it and the chip's where
     /// they are absent.
     ///
     /// `Failed` where one of them can't be made, as where a file is in the way.
-    pub fn open(rt: R, alloc: Global, dir: &str) -> Result<FileBoard<R>, BoardFault> {
+    pub fn open(rt: R, alloc: Global, dir: &str) -> Result<FileBoard<R>, BoardFault>
+        ensures no_fault { IfOk result (λ board. faults_of board ≡ 0) }
+        ensures usable { IfOk result (λ board. is_lost board ≡ false) }
+    {
         let mut faults = FaultCount::new();
         let folder = answered(&mut faults, RealFolder::open(rt, alloc, dir))?;
-        Ok(FileBoard { folder, faults })
+        Ok(FileBoard {
+            folder,
+            faults,
+            lost: false,
+        })
+    }
+
+    // Fails once a sync has failed.
+    fn usable(&mut self) -> Result<(), Failed>
+        ensures fails { IsErr result ↔ IsTrue (is_lost self.old) }
+        ensures stays { is_lost self.new ≡ is_lost self.old }
+        ensures cause { HasCause (faults_of self.old) (faults_of self.new) (IsErr result) }
+    {
+        if self.lost {
+            Err(self.faults.raise())
+        } else {
+            Ok(())
+        }
+    }
+
+    // The same where want of memory is an answer of its own.
+    fn readable(&mut self) -> Result<(), BoardFault>
+        ensures fails { IsErrOf result BoardFault.Failed ↔ IsTrue (is_lost self.old) }
+        ensures only { OnErr result (IsErrOf result BoardFault.Failed) }
+        ensures stays { is_lost self.new ≡ is_lost self.old }
+        ensures cause { HasCause (faults_of self.old) (faults_of self.new)
+            (IsErrOf result BoardFault.Failed) }
+    {
+        match self.usable() {
+            Ok(()) => Ok(()),
+            Err(Failed) => Err(BoardFault::Failed),
+        }
+    }
+
+    // Ends a sync. Where it failed, what was to be synced may be lost without another word.
+    fn synced(&mut self, outcome: io::Result<()>) -> Result<(), Failed>
+        ensures loses { OnErr result (IsTrue (is_lost self.new)) }
+        ensures stays { OnOk result (is_lost self.new ≡ is_lost self.old) }
+        ensures cause { HasCause (faults_of self.old) (faults_of self.new) (IsErr result) }
+    {
+        match outcome {
+            Ok(()) => Ok(()),
+            Err(_) => {
+                self.lost = true;
+                Err(self.faults.raise())
+            }
+        }
     }
 }
 
 impl<R: Files + AllocGlobal + Clone + Drop> Board for FileBoard<R> {
+    ghost use Rattle.board_model.specs.RealBoard.{faults_of, is_lost, Fails, Syncs};
+
     ghost disk = { λ b. untold };
 
-    ghost faults = { λ b. b.faults };
+    ghost faults = { λ b. faults_of b };
 
     ghost counts_now = { λ b t i le is. is };
 
@@ -72,12 +130,23 @@ impl<R: Files + AllocGlobal + Clone + Drop> Board for FileBoard<R> {
 
     ghost is_image = { λ b. tt };
 
-    fn list(&mut self, alloc: Global) -> Result<Vec<Text>, BoardFault> {
+    fn list(&mut self, alloc: Global) -> Result<Vec<Text>, BoardFault>
+        ensures sorted { IfOk result (λ names. IsSorted (slice_cmp nat_cmp) names.items) }
+        ensures cause { HasCause (faults_of self.old) (faults_of self.new)
+            (IsErrOf result BoardFault.Failed) }
+        ensures lost { Fails self.old self.new (IsErrOf result BoardFault.Failed) }
+    {
+        self.readable()?;
         let names = self.folder.names(alloc);
         answered(&mut self.faults, names)
     }
 
-    fn read(&mut self, alloc: Global, name: &str, most: usize) -> Result<Option<Blob>, BoardFault> {
+    fn read(&mut self, alloc: Global, name: &str, most: usize) -> Result<Option<Blob>, BoardFault>
+        ensures cause { HasCause (faults_of self.old) (faults_of self.new)
+            (IsErrOf result BoardFault.Failed) }
+        ensures lost { Fails self.old self.new (IsErrOf result BoardFault.Failed) }
+    {
+        self.readable()?;
         let bytes = self.folder.bytes(alloc, name, most);
         match bytes {
             Err(error) if error.kind() == ErrorKind::NotFound => Ok(None),
@@ -91,38 +160,74 @@ impl<R: Files + AllocGlobal + Clone + Drop> Board for FileBoard<R> {
         }
     }
 
-    fn write_temp(&mut self, name: &str, bytes: &[u8]) -> Result<(), Failed> {
+    fn write_temp(&mut self, name: &str, bytes: &[u8]) -> Result<(), Failed>
+        ensures cause { HasCause (faults_of self.old) (faults_of self.new) (IsErr result) }
+        ensures lost { Fails self.old self.new (IsErr result) }
+    {
+        self.usable()?;
         let written = self.folder.write(name, bytes);
         counted(&mut self.faults, written)
     }
 
-    fn sync_temp(&mut self, name: &str) -> Result<(), Failed> {
+    fn sync_temp(&mut self, name: &str) -> Result<(), Failed>
+        ensures cause { HasCause (faults_of self.old) (faults_of self.new) (IsErr result) }
+        ensures lost { Syncs self.old self.new (IsErr result) }
+    {
+        self.usable()?;
         let synced = self.folder.sync(name);
-        counted(&mut self.faults, synced)
+        self.synced(synced)
     }
 
-    fn rename(&mut self, from: &str, to: &str) -> Result<(), Failed> {
+    fn rename(&mut self, from: &str, to: &str) -> Result<(), Failed>
+        ensures cause { HasCause (faults_of self.old) (faults_of self.new) (IsErr result) }
+        ensures lost { Fails self.old self.new (IsErr result) }
+    {
+        self.usable()?;
         let renamed = self.folder.rename(from, to);
         counted(&mut self.faults, renamed)
     }
 
-    fn remove(&mut self, name: &str) -> Result<(), Failed> {
+    fn remove(&mut self, name: &str) -> Result<(), Failed>
+        ensures cause { HasCause (faults_of self.old) (faults_of self.new) (IsErr result) }
+        ensures lost { Fails self.old self.new (IsErr result) }
+    {
+        self.usable()?;
         let removed = self.folder.remove(name);
         counted(&mut self.faults, removed)
     }
 
-    fn sync_dir(&mut self) -> Result<(), Failed> {
+    fn sync_dir(&mut self) -> Result<(), Failed>
+        ensures cause { HasCause (faults_of self.old) (faults_of self.new) (IsErr result) }
+        ensures lost { Syncs self.old self.new (IsErr result) }
+    {
+        self.usable()?;
         let synced = self.folder.sync_both();
-        counted(&mut self.faults, synced)
+        self.synced(synced)
     }
 
-    fn nv_load(&mut self) -> Result<[u8; 256], Failed> {
+    fn nv_load(&mut self) -> Result<[u8; 256], Failed>
+        ensures cause { HasCause (faults_of self.old) (faults_of self.new) (IsErr result) }
+        ensures lost { Fails self.old self.new (IsErr result) }
+    {
+        self.usable()?;
         let words = self.folder.words();
         counted(&mut self.faults, words)
     }
 
-    fn nv_store(&mut self, words: &[u8; 256]) -> Result<(), Failed> {
-        let stored = self.folder.store(words);
-        counted(&mut self.faults, stored)
+    fn nv_store(&mut self, words: &[u8; 256]) -> Result<(), Failed>
+        ensures cause { HasCause (faults_of self.old) (faults_of self.new) (IsErr result) }
+        ensures lost { IsTrue (is_lost self.old) → IsErr result }
+        ensures stays { IsTrue (is_lost self.old) → IsTrue (is_lost self.new) }
+        ensures sound { OnOk result (is_lost self.new ≡ false) }
+    {
+        self.usable()?;
+        let written = self.folder.write_words(words);
+        counted(&mut self.faults, written)?;
+        let synced = self.folder.sync_words();
+        self.synced(synced)?;
+        let replaced = self.folder.replace_words();
+        counted(&mut self.faults, replaced)?;
+        let synced = self.folder.sync_chip();
+        self.synced(synced)
     }
 }

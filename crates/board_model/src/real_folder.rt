@@ -1,5 +1,9 @@
 //! A real directory and the chip directory beside it.
 
+ghost use Rattle.std.specs.Prelude.{IfOk, IsSorted};
+ghost use Rattle.std.specs.Ordering.{nat_cmp};
+ghost use Rattle.std.specs.Cmp.Lexicographic.{slice_cmp};
+
 use ct_bytes::{NoMemory, Text};
 use std::alloc::{AllocError, Global};
 use std::fs::OpenFile;
@@ -26,7 +30,6 @@ pub struct RealFolder<R> {
     chip: String,
     path: String,
     target: String,
-    lost: bool,
 }
 
 // The directory without slashes at its end. One of slashes alone is the root.
@@ -67,27 +70,12 @@ impl<R: Files + AllocGlobal + Clone + Drop> RealFolder<R> {
             chip,
             path,
             target,
-            lost: false,
         })
     }
 
-    /// Fails once a sync has failed: what was to be synced may then be lost without another word.
-    fn usable(&self) -> io::Result<()> {
-        if self.lost {
-            Err(io::Error::from(ErrorKind::Other))
-        } else {
-            Ok(())
-        }
-    }
-
     // Syncs the file or the directory that `path` names.
-    fn sync_path(&mut self) -> io::Result<()> {
-        let file = fs::open(&self.rt, self.path.as_str())?;
-        let synced = file.sync_all();
-        if synced.is_err() {
-            self.lost = true;
-        }
-        synced
+    fn sync_path(&self) -> io::Result<()> {
+        fs::open(&self.rt, self.path.as_str())?.sync_all()
     }
 
     fn sync_folder(&mut self) -> io::Result<()> {
@@ -95,14 +83,10 @@ impl<R: Files + AllocGlobal + Clone + Drop> RealFolder<R> {
         self.sync_path()
     }
 
-    fn sync_chip(&mut self) -> io::Result<()> {
-        join(&mut self.path, self.chip.as_str(), ".")?;
-        self.sync_path()
-    }
-
     /// The names of the regular files that are UTF-8, in the order of their bytes.
-    pub fn names(&mut self, alloc: Global) -> io::Result<Vec<Text>> {
-        self.usable()?;
+    pub fn names(&mut self, alloc: Global) -> io::Result<Vec<Text>>
+        ensures sorted { IfOk result (λ names. IsSorted (slice_cmp nat_cmp) names.items) }
+    {
         let mut names = Vec::new(alloc);
         for entry in fs::read_dir(&self.rt, self.folder.as_str())? {
             match entry {
@@ -121,7 +105,6 @@ impl<R: Files + AllocGlobal + Clone + Drop> RealFolder<R> {
 
     /// The first `most` bytes of a file at most.
     pub fn bytes(&mut self, alloc: Global, name: &str, most: usize) -> io::Result<Vec<u8>> {
-        self.usable()?;
         join(&mut self.path, self.folder.as_str(), name)?;
         let file = fs::open(&self.rt, self.path.as_str())?;
         let mut bytes = Vec::new(alloc);
@@ -130,19 +113,16 @@ impl<R: Files + AllocGlobal + Clone + Drop> RealFolder<R> {
     }
 
     pub fn write(&mut self, name: &str, bytes: &[u8]) -> io::Result<()> {
-        self.usable()?;
         join(&mut self.path, self.folder.as_str(), name)?;
         fs::write(&self.rt, self.path.as_str(), bytes)
     }
 
     pub fn sync(&mut self, name: &str) -> io::Result<()> {
-        self.usable()?;
         join(&mut self.path, self.folder.as_str(), name)?;
         self.sync_path()
     }
 
     pub fn rename(&mut self, from: &str, to: &str) -> io::Result<()> {
-        self.usable()?;
         join(&mut self.path, self.folder.as_str(), from)?;
         join(&mut self.target, self.folder.as_str(), to)?;
         fs::rename(&self.rt, self.path.as_str(), self.target.as_str())
@@ -150,7 +130,6 @@ impl<R: Files + AllocGlobal + Clone + Drop> RealFolder<R> {
 
     /// Where there is no such file, that is `Ok`.
     pub fn remove(&mut self, name: &str) -> io::Result<()> {
-        self.usable()?;
         join(&mut self.path, self.folder.as_str(), name)?;
         match fs::remove_file(&self.rt, self.path.as_str()) {
             Err(error) if error.kind() == ErrorKind::NotFound => Ok(()),
@@ -160,7 +139,6 @@ impl<R: Files + AllocGlobal + Clone + Drop> RealFolder<R> {
 
     /// Syncs both directories.
     pub fn sync_both(&mut self) -> io::Result<()> {
-        self.usable()?;
         self.sync_folder()?;
         self.sync_chip()
     }
@@ -168,7 +146,6 @@ impl<R: Files + AllocGlobal + Clone + Drop> RealFolder<R> {
     /// The chip's words: 256 zero bytes where there is no such file, and a fault where it has another
     /// length.
     pub fn words(&mut self) -> io::Result<[u8; 256]> {
-        self.usable()?;
         join(&mut self.path, self.chip.as_str(), WORDS)?;
         let mut words = [0u8; 256];
         let mut file = match fs::open(&self.rt, self.path.as_str()) {
@@ -184,15 +161,27 @@ impl<R: Files + AllocGlobal + Clone + Drop> RealFolder<R> {
         }
     }
 
-    /// Replaces the chip's words by way of a temporary file.
-    pub fn store(&mut self, words: &[u8; 256]) -> io::Result<()> {
-        self.usable()?;
+    /// Writes new words for the chip into a temporary file.
+    pub fn write_words(&mut self, words: &[u8; 256]) -> io::Result<()> {
+        join(&mut self.path, self.chip.as_str(), NEW_WORDS)?;
+        fs::write(&self.rt, self.path.as_str(), words.as_slice())
+    }
+
+    pub fn sync_words(&mut self) -> io::Result<()> {
+        join(&mut self.path, self.chip.as_str(), NEW_WORDS)?;
+        self.sync_path()
+    }
+
+    /// Puts the new words in the place of the old ones.
+    pub fn replace_words(&mut self) -> io::Result<()> {
         join(&mut self.path, self.chip.as_str(), NEW_WORDS)?;
         join(&mut self.target, self.chip.as_str(), WORDS)?;
-        fs::write(&self.rt, self.path.as_str(), words.as_slice())?;
-        self.sync_path()?;
-        fs::rename(&self.rt, self.path.as_str(), self.target.as_str())?;
-        self.sync_chip()
+        fs::rename(&self.rt, self.path.as_str(), self.target.as_str())
+    }
+
+    pub fn sync_chip(&mut self) -> io::Result<()> {
+        join(&mut self.path, self.chip.as_str(), ".")?;
+        self.sync_path()
     }
 }
 

@@ -103,3 +103,20 @@ fn a_directory_that_cannot_be_made_is_a_fault(rt: HostRuntime) -> Outcome {
     }
     Ok(())
 }
+
+#[test]
+fn a_folder_in_the_way_of_a_file_is_a_fault(rt: HostRuntime) -> Outcome {
+    let alloc = rt.alloc();
+    let Ok(mut board) = FileBoard::open(rt, alloc, "ways") else {
+        return Err(test::Fail::new("the directory can't be made"));
+    };
+    for name in ["ways/a", "ways/tmp-a"] {
+        fs::create_dir(&rt, name)?;
+    }
+    assert!(rt; board.write_temp("tmp-a", b"entire").is_err());
+    assert!(rt; board.remove("a").is_err());
+    board.write_temp("tmp-b", b"entire")?;
+    assert!(rt; board.rename("tmp-b", "a").is_err());
+    assert!(rt; has(alloc, &mut board, "tmp-b", "entire")?);
+    Ok(())
+}
