@@ -33,6 +33,10 @@ memory_of board = record {
   starved = board.starved;
 }
 
+-- how often a call of the board has failed
+abbrev pub faults_of : MemBoard → ℕ
+faults_of board = board.faults
+
 -- a board that has had no call
 abbrev pub started : Image → List Fail → Memory
 started first fails =

@@ -12,7 +12,7 @@ ghost use Rattle.board_model.specs.Files.{IsTemporary};
 ghost use Rattle.board_model.specs.Disk.{Image, Same, SameBut, Written, Renamed, Removed, Stored};
 ghost use Rattle.board_model.specs.Disk.{Maybe, Follows, Leaves, Goes, GoesOrNot, Unchanged};
 ghost use Rattle.board_model.specs.Disk.{Ticked, IsWholeIn};
-ghost use Rattle.mem_board.specs.Memory.{memory_of, disk_at, Looks, Changes};
+ghost use Rattle.mem_board.specs.Memory.{memory_of, faults_of, disk_at, Looks, Changes};
 
 use crate::board::MemBoard;
 use crate::call::Change;
@@ -50,27 +50,26 @@ fn removal_of(alloc: Global, name: &str) -> Result<Change, NoMemory>
 }
 
 impl Board for MemBoard {
-    ghost use Rattle.mem_board.specs.Memory.{disk_at};
-    ghost use Rattle.mem_board.specs.Content.{image_of};
+    ghost use Rattle.mem_board.specs.Memory.{memory_of, faults_of, disk_at};
     ghost use Rattle.mem_board.specs.CallLaws.{counted, only_newest, synced_is_image, now_is_image};
 
     ghost disk = { λ b. disk_at b };
 
-    ghost faults = { λ b. b.faults };
+    ghost faults = { λ b. faults_of b };
 
-    ghost counts_now = { λ b t i le is. counted (image_of b.first) b.calls.items t i is };
+    ghost counts_now = { λ b t i le is. counted (memory_of b).first (memory_of b).calls t i is };
 
-    ghost only_now = { λ b i was. only_newest (image_of b.first) b.calls.items i was };
+    ghost only_now = { λ b i was. only_newest (memory_of b).first (memory_of b).calls i was };
 
-    ghost synced_now = { λ b i is. synced_is_image (image_of b.first) b.calls.items i is };
+    ghost synced_now = { λ b i is. synced_is_image (memory_of b).first (memory_of b).calls i is };
 
-    ghost is_image = { λ b. now_is_image (image_of b.first) b.calls.items };
+    ghost is_image = { λ b. now_is_image (memory_of b).first (memory_of b).calls };
 
     fn list(&mut self, alloc: Global) -> Result<Vec<Text>, BoardFault>
         ensures content { IfOk result (λ names.
             IfSome (disk_at self.old).now (λ now. names.items ≡ keys now.files)) }
         ensures unchanged { Unchanged (disk_at self.old) (disk_at self.new) }
-        ensures cause { HasCause self.old.faults self.new.faults
+        ensures cause { HasCause (faults_of self.old) (faults_of self.new)
             (IsErrOf result BoardFault.Failed) }
         ensures counted { Looks (memory_of self.old) (memory_of self.new)
             (IsErrOf result BoardFault.Failed) }
@@ -88,7 +87,7 @@ impl Board for MemBoard {
         ensures content { IfOk result (λ found. IfSome (disk_at self.old).now
             (λ now. found ≡ option_map (take most) (get now.files name.now))) }
         ensures unchanged { Unchanged (disk_at self.old) (disk_at self.new) }
-        ensures cause { HasCause self.old.faults self.new.faults
+        ensures cause { HasCause (faults_of self.old) (faults_of self.new)
             (IsErrOf result BoardFault.Failed) }
         ensures counted { Looks (memory_of self.old) (memory_of self.new)
             (IsErrOf result BoardFault.Failed) }
@@ -109,7 +108,7 @@ impl Board for MemBoard {
         ensures goes { Goes (disk_at self.old) (disk_at self.new) (SameBut name.now) }
         ensures crash { Leaves (disk_at self.old) (disk_at self.new) (SameBut name.now) }
         ensures ticks { OnOk result (Ticked (disk_at self.old) (disk_at self.new)) }
-        ensures cause { HasCause self.old.faults self.new.faults (IsErr result) }
+        ensures cause { HasCause (faults_of self.old) (faults_of self.new) (IsErr result) }
         ensures counted { Changes (Change.Write name.now bytes.now)
             (memory_of self.old) (memory_of self.new) (IsErr result) }
     {
@@ -126,7 +125,7 @@ impl Board for MemBoard {
         ensures goes { Goes (disk_at self.old) (disk_at self.new) (SameBut name.now) }
         ensures crash { Leaves (disk_at self.old) (disk_at self.new) (SameBut name.now) }
         ensures ticks { OnOk result (Ticked (disk_at self.old) (disk_at self.new)) }
-        ensures cause { HasCause self.old.faults self.new.faults (IsErr result) }
+        ensures cause { HasCause (faults_of self.old) (faults_of self.new) (IsErr result) }
         ensures counted { Changes (Change.SyncTemp name.now)
             (memory_of self.old) (memory_of self.new) (IsErr result) }
     {
@@ -143,7 +142,7 @@ impl Board for MemBoard {
         ensures crash { Leaves (disk_at self.old) (disk_at self.new)
             (Maybe (Renamed from.now to.now)) }
         ensures ticks { OnOk result (Ticked (disk_at self.old) (disk_at self.new)) }
-        ensures cause { HasCause self.old.faults self.new.faults (IsErr result) }
+        ensures cause { HasCause (faults_of self.old) (faults_of self.new) (IsErr result) }
         ensures counted { Changes (Change.Rename from.now to.now)
             (memory_of self.old) (memory_of self.new) (IsErr result) }
     {
@@ -156,7 +155,7 @@ impl Board for MemBoard {
         ensures done_or_not { GoesOrNot (disk_at self.old) (disk_at self.new) (Removed name.now) }
         ensures crash { Leaves (disk_at self.old) (disk_at self.new) (Maybe (Removed name.now)) }
         ensures ticks { OnOk result (Ticked (disk_at self.old) (disk_at self.new)) }
-        ensures cause { HasCause self.old.faults self.new.faults (IsErr result) }
+        ensures cause { HasCause (faults_of self.old) (faults_of self.new) (IsErr result) }
         ensures counted { Changes (Change.Remove name.now)
             (memory_of self.old) (memory_of self.new) (IsErr result) }
     {
@@ -169,7 +168,7 @@ impl Board for MemBoard {
             → (disk_at self.old).once_synced i) }
         ensures unchanged { Unchanged (disk_at self.old) (disk_at self.new) }
         ensures ticks { OnOk result (Ticked (disk_at self.old) (disk_at self.new)) }
-        ensures cause { HasCause self.old.faults self.new.faults (IsErr result) }
+        ensures cause { HasCause (faults_of self.old) (faults_of self.new) (IsErr result) }
         ensures counted { Changes Change.SyncDir
             (memory_of self.old) (memory_of self.new) (IsErr result) }
     {
@@ -180,7 +179,7 @@ impl Board for MemBoard {
         ensures content { IfOk result (λ words.
             IfSome (disk_at self.old).now (λ now. words ≡ now.words)) }
         ensures unchanged { Unchanged (disk_at self.old) (disk_at self.new) }
-        ensures cause { HasCause self.old.faults self.new.faults (IsErr result) }
+        ensures cause { HasCause (faults_of self.old) (faults_of self.new) (IsErr result) }
         ensures counted { Looks (memory_of self.old) (memory_of self.new) (IsErr result) }
     {
         self.look()?;
@@ -194,7 +193,7 @@ impl Board for MemBoard {
         ensures done_or_not { GoesOrNot (disk_at self.old) (disk_at self.new) (Stored words.now) }
         ensures crash { Leaves (disk_at self.old) (disk_at self.new) (Maybe (Stored words.now)) }
         ensures ticks { OnOk result (Ticked (disk_at self.old) (disk_at self.new)) }
-        ensures cause { HasCause self.old.faults self.new.faults (IsErr result) }
+        ensures cause { HasCause (faults_of self.old) (faults_of self.new) (IsErr result) }
         ensures counted { Changes (Change.Store words.now)
             (memory_of self.old) (memory_of self.new) (IsErr result) }
     {

@@ -7,7 +7,7 @@ ghost use Rattle.mem_board.specs.Content.{image_of};
 ghost use Rattle.mem_board.specs.Crash.{is_certain, choices, written_as, chosen, is_dir_sync};
 ghost use Rattle.mem_board.specs.Crash.{synced_to, next_choice, disk_then, image_at};
 ghost use Rattle.mem_board.specs.Choosing.{choice_of};
-ghost use Rattle.mem_board.specs.Memory.{memory_of, disk_at, started, HasOnly};
+ghost use Rattle.mem_board.specs.Memory.{memory_of, faults_of, disk_at, started, HasOnly};
 
 use crate::board::MemBoard;
 use crate::call::{Call, Change, Outcome};
@@ -204,7 +204,7 @@ impl MemBoard {
         ensures since { IfOk result (λ board.
             (disk_at self.now).left_since tick (memory_of board).first) }
         ensures settled { IfOk result (λ board. HasOnly (disk_at board) (memory_of board).first) }
-        ensures no_fault { IfOk result (λ board. board.faults ≡ 0) }
+        ensures no_fault { IfOk result (λ board. faults_of board ≡ 0) }
     {
         let content = self.crash_image(tick as usize, pick)?;
         MemBoard::begin(alloc, content, Vec::new(alloc))

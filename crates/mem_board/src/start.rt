@@ -4,7 +4,7 @@ ghost use Rattle.std.specs.Prelude.{◌≡◌, IfOk};
 ghost use Rattle.std.specs.FinMap.{empty};
 ghost use Rattle.mem_board.specs.Content.{image_of};
 ghost use Rattle.mem_board.specs.FileList.{with_files};
-ghost use Rattle.mem_board.specs.Memory.{memory_of, disk_at, started, HasOnly};
+ghost use Rattle.mem_board.specs.Memory.{memory_of, faults_of, disk_at, started, HasOnly};
 
 use crate::board::MemBoard;
 use crate::content::Content;
@@ -31,7 +31,7 @@ impl MemBoard {
         // It tells its content, and a crash leaves just that.
         ensures settled { IfOk result (λ board. HasOnly (disk_at board)
             (record { files = with_files empty files.items; words = words })) }
-        ensures no_fault { IfOk result (λ board. board.faults ≡ 0) }
+        ensures no_fault { IfOk result (λ board. faults_of board ≡ 0) }
     {
         let files = FileMap::from_list(alloc, files)?;
         MemBoard::begin(alloc, Content { files, words }, fails)
@@ -45,7 +45,7 @@ impl MemBoard {
     ) -> Result<MemBoard, NoMemory>
         ensures starts { IfOk result (λ board.
             memory_of board ≡ started (image_of first) fails.items) }
-        ensures no_fault { IfOk result (λ board. board.faults ≡ 0) }
+        ensures no_fault { IfOk result (λ board. faults_of board ≡ 0) }
     {
         let content = first.copy()?;
         Ok(MemBoard {

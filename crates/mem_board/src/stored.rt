@@ -2,7 +2,7 @@
 
 ghost use Rattle.std.specs.Prelude.{◌≡◌, IfOk, IsErr};
 ghost use Rattle.fault_count.specs.Causes.{HasCause};
-ghost use Rattle.mem_board.specs.Memory.{memory_of, next_outcome, Counts, Looks, Changes};
+ghost use Rattle.mem_board.specs.Memory.{memory_of, faults_of, next_outcome, Counts, Looks, Changes};
 
 use crate::board::{MemBoard, note};
 use crate::call::{Change, Outcome};
@@ -17,7 +17,7 @@ impl MemBoard {
         ensures value { result ≡ next_outcome (memory_of self.old) }
         ensures calls { self.new.calls.items ≡ self.old.calls.items }
         ensures starved { self.new.starved ≡ self.old.starved }
-        ensures faults { self.new.faults ≡ self.old.faults }
+        ensures faults { faults_of self.new ≡ faults_of self.old }
         ensures content { self.new.content ≡ self.old.content }
     {
         self.made = self.made.saturating_add(1);
@@ -28,7 +28,7 @@ impl MemBoard {
     pub(crate) fn look(&mut self) -> Result<(), Failed>
         ensures looks { Looks (memory_of self.old) (memory_of self.new) (IsErr result) }
         ensures content { self.new.content ≡ self.old.content }
-        ensures cause { HasCause self.old.faults self.new.faults (IsErr result) }
+        ensures cause { HasCause (faults_of self.old) (faults_of self.new) (IsErr result) }
     {
         if self.count() == Outcome::Done {
             Ok(())
@@ -41,7 +41,7 @@ impl MemBoard {
     pub(crate) fn call(&mut self, change: Result<Change, NoMemory>) -> Result<(), Failed>
         ensures changes { (is : Change) → IfOk change (λ change. change ≡ is)
             → Changes is (memory_of self.old) (memory_of self.new) (IsErr result) }
-        ensures cause { HasCause self.old.faults self.new.faults (IsErr result) }
+        ensures cause { HasCause (faults_of self.old) (faults_of self.new) (IsErr result) }
     {
         let outcome = self.count();
         let noted = match change {
