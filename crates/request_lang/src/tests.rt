@@ -1,8 +1,10 @@
-//! Request lines, and the reply texts that name no record.
+//! Request lines, and the reply texts.
 
+ghost use Rattle.std.specs.Prelude.{IfOk};
 ghost use Rattle.request_lang.specs.Replies.{NamesRecord};
 
 use crate::{LineFault, fault_text, parse_line, reply_text};
+use ct_bytes::{NoMemory, Text};
 use factor_machine::{Answer, Request};
 use std::alloc::{AllocError, Global};
 use std::test;
@@ -98,6 +100,22 @@ fn each_answer_has_its_reply(rt: HostRuntime) -> Outcome {
     );
     let reply = replied(alloc, &Answer::NoMemory)?;
     assert_eq!(rt; reply.as_slice(), b"{\"answer\":\"no_memory\"}".as_slice());
+    Ok(())
+}
+
+// The answer that the record of ann is damaged.
+fn damaged(alloc: Global) -> Result<Answer, NoMemory>
+    ensures { IfOk result NamesRecord }
+{
+    Ok(Answer::Damaged(Text::from_str(alloc, "ann.stash")?))
+}
+
+#[test]
+fn a_damaged_record_is_named_in_the_reply(rt: HostRuntime) -> Outcome {
+    let alloc = rt.alloc();
+    let reply = replied(alloc, &damaged(alloc)?)?;
+    let want = b"{\"answer\":\"damaged\",\"record\":\"ann.stash\"}";
+    assert_eq!(rt; reply.as_slice(), want.as_slice());
     Ok(())
 }
 
