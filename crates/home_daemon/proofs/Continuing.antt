@@ -1,17 +1,17 @@
 -- How an account goes on through several turns.
-use Rattle.std.proofs.Common.{◌≡◌, ℕ, ◌+◌, ◌-◌, ◌^◌, ◌≤◌, min, List, [], ◌∷◌, ◌++◌, Option, None, Some, refl, sym, ap, ◌∙◌, subst, append_assoc, arith}
+use Rattle.std.proofs.Common.{◌≡◌, ℕ, ◌+◌, List, [], ◌∷◌, ◌++◌, refl, sym, ap, ◌∙◌, subst, append_assoc, arith}
+use Rattle.std.specs.Prelude.{IsTrue}
 use Rattle.std.proofs.lemmas.Grind.{common_steps}
-use Rattle.fault_count.specs.Told.{Becomes}
-use Rattle.board_model.specs.Disk.{Image, Disk}
-use Rattle.board_model.proofs.Effects.{becomes_same, becomes_weaker, becomes_then}
+use Rattle.board_model.specs.Disk.{Image, Disk, Unchanged}
+use Rattle.board_model.proofs.Effects.{becomes_weaker, becomes_then}
 use Rattle.factor_machine.specs.declared.user.User.{User}
-use Rattle.factor_machine.specs.declared.user.Era.{Era}
 use Rattle.factor_machine.specs.declared.entry.Entry.{Entry}
-use Rattle.factor_machine.specs.Legal.{IsLegal}
 use Rattle.factor_machine.proofs.Histories.{IsLegal-append}
 use Rattle.home_daemon.specs.declared.account.Account.{Account}
 use Rattle.home_daemon.specs.Stash.{HoldsUser}
-use Rattle.home_daemon.specs.Account.{Continues, Explains, StaysHeld, AreSound, storage_faults, storage_faults_of, name_of, user_of, entries_of}
+use Rattle.home_names.specs.Names.{is_account_name}
+use Rattle.home_daemon.specs.Account.{Continues, Explains, StaysHeld, AreSound, Survives, storage_faults, name_of, user_of, entries_of}
+use Rattle.home_daemon.proofs.Surviving.{survives_none, survives_then}
 
 pub append_nil : {A : Type 0} (xs : List A) → xs ++ [] ≡ xs
 append_nil [] = refl
@@ -39,20 +39,29 @@ explains_then a b c m n first second = record {
 }
 
 module _ {B : Type 0} (disk : B → Disk) (faults : B → ℕ) where
-  -- nothing has happened
-  pub continues_none : (account : Account B) → Continues disk faults account account []
-  continues_none account = record {
-    name = refl;
-    book = sym (append_nil (entries_of account));
-    legal = λ era. refl;
-    content = becomes_weaker _ _ (disk account.board).now (disk account.board).now
-        (λ old new same holds. record {
-          held = subst (λ (image : Image). HoldsUser image.files (name_of account) (user_of account)) (sym same) holds;
+  -- without a turn nothing has happened
+  pub continues_still : (before after : Account B)
+      → name_of after ≡ name_of before → entries_of after ≡ entries_of before → user_of after ≡ user_of before
+      → Unchanged (disk before.board) (disk after.board) → faults after.board ≡ faults before.board
+      → Continues disk faults before after []
+  continues_still before after name entries user same count = record {
+    name = name;
+    book = entries ∙ sym (append_nil (entries_of before));
+    legal = λ era. user;
+    content = becomes_weaker _ _ (disk before.board).now (disk after.board).now
+        (λ old new one holds. record {
+          held = subst (λ (last : User). HoldsUser new.files (name_of before) last) (sym user)
+              (subst (λ (image : Image). HoldsUser image.files (name_of before) (user_of before)) (sym one) holds);
           sound = tt;
         })
-        (becomes_same (disk account.board).now);
-    cause = record { rose = omega arith; kept = λ none. refl };
+        same.goes.now;
+    cause = record { rose = omega (arith, count); kept = λ none. count };
+    crash = λ plain. survives_none (name_of before) (disk before.board) (disk after.board) same;
   }
+
+  pub continues_none : (account : Account B) → Unchanged (disk account.board) (disk account.board)
+      → Continues disk faults account account []
+  continues_none account same = continues_still account account refl refl refl same refl
 
   -- one stretch of turns after another
   pub continues_then : (a b c : Account B) (xs ys : List Entry)
@@ -71,4 +80,7 @@ module _ {B : Type 0} (disk : B → Disk) (faults : B → ℕ) where
         first.content second.content;
     cause = subst (Explains (faults a.board) (faults c.board)) (sym (storage_faults-append xs ys))
         (explains_then _ _ _ _ _ first.cause second.cause);
+    crash = λ plain.
+        let later = subst (λ (name : List ℕ). IsTrue (is_account_name name) → Survives name ys (disk b.board) (disk c.board)) first.name second.crash in
+        survives_then (name_of a) plain xs ys (disk a.board) (disk b.board) (disk c.board) (first.crash plain) (later plain);
   }

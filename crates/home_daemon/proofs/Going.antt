@@ -1,6 +1,5 @@
 -- How an account goes on by one turn, from the device steps of the turn.
-use Rattle.std.proofs.Common.{◌≡◌, ◌≢◌, ◌⊎◌, inl, inr, ℕ, ◌+◌, ◌<◌, ◌≤◌, ◌^◌, max, List, [], ◌∷◌, Option, refl, sym, subst, arith}
-use Rattle.std.specs.Option.{IsSomeAnd}
+use Rattle.std.proofs.Common.{◌≡◌, ◌≢◌, ◌⊎◌, inl, inr, ◌∙◌, ℕ, ◌+◌, ◌<◌, ◌^◌, max, List, [], ◌∷◌, Option, refl, sym, subst, arith}
 use Rattle.fault_count.specs.Causes.{HasCause}
 use Rattle.fault_count.specs.Told.{Becomes}
 use Rattle.board_model.specs.Files.{Files}
@@ -9,7 +8,8 @@ use Rattle.board_model.proofs.Effects.{becomes_weaker}
 use Rattle.factor_machine.specs.declared.user.User.{User}
 use Rattle.factor_machine.specs.declared.user.Era.{Era}
 use Rattle.factor_machine.specs.declared.entry.Entry.{Entry}
-use Rattle.factor_machine.specs.Step.{Turned, Step}
+use Rattle.factor_machine.specs.declared.entry.Answer.TheVariants as answers
+use Rattle.factor_machine.specs.Step.{Turned}
 use Rattle.factor_machine.specs.Legal.{IsLegal}
 use Rattle.home_daemon.specs.declared.home.HomeState.{HomeState}
 use Rattle.home_daemon.specs.declared.home.HomeState.TheVariants.{Absent, Made, Unsure}
@@ -18,7 +18,7 @@ use Rattle.home_daemon.specs.declared.account.TurnEnd.TheVariants.{Done, Exists,
 use Rattle.home_daemon.specs.Stash.{HoldsUser}
 use Rattle.home_daemon.specs.Home.{user_in}
 use Rattle.home_daemon.specs.Turns.{answer_of, TakesTurn}
-use Rattle.home_daemon.specs.Account.{IsSound, StaysHeld, Explains, storage_faults, storage_faults_of}
+use Rattle.home_daemon.specs.Account.{HasOk, IsSound, StaysHeld, Explains, storage_faults, storage_faults_of}
 
 -- another last moment is all that differs
 user_in-last : (home : HomeState) (last moment : ℕ) → record (user_in home last) { last = moment } ≡ user_in home moment
@@ -56,6 +56,16 @@ legal_turn era before after last turn given moment turned =
     last_of Absent last = refl
     last_of Made last = refl
     last_of Unsure last = refl
+
+-- a turn that answered ok was done
+pub done_by : (end : TurnEnd) (name : List ℕ) (turn : Entry) → turn.answer ≡ answer_of end name
+    → HasOk (turn ∷ []) → end ≡ Done
+done_by end name turn answered (inr none) = absurd none
+done_by Done name turn answered (inl ok) = refl
+done_by Exists name turn answered (inl ok) = let clash : answers.Exists ≡ answers.Ok = sym answered ∙ ok in cc
+done_by StorageFault name turn answered (inl ok) = let clash : answers.StorageFault ≡ answers.Ok = sym answered ∙ ok in cc
+done_by NoMemory name turn answered (inl ok) = let clash : answers.NoMemory ≡ answers.Ok = sym answered ∙ ok in cc
+done_by Damaged name turn answered (inl ok) = let clash : answers.Damaged name ≡ answers.Ok = sym answered ∙ ok in cc
 
 -- an answer that names no damaged record
 sound_end : (end : TurnEnd) (name : List ℕ) → end ≢ Damaged → IsSound (answer_of end name)

@@ -1,4 +1,5 @@
 mod Puts
+pub mod Surviving
 mod Found
 mod Turning
 mod Going

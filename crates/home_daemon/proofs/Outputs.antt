@@ -1,9 +1,9 @@
 -- One more line of an output.
-use Rattle.std.proofs.Common.{◌≡◌, ◌⊎◌, inl, inr, ℕ, List, [], ◌∷◌, ◌++◌, map, Option, None, Some, refl, sym, ap, ◌∙◌, subst, append_assoc, arith}
-use Rattle.std.specs.Prelude.{All, MatchOption}
+use Rattle.std.proofs.Common.{◌≡◌, inl, inr, ℕ, List, [], ◌∷◌, ◌++◌, map, Option, None, Some, refl, sym, ap, ◌∙◌, subst, append_assoc, arith}
+use Rattle.std.specs.Prelude.{MatchOption}
 use Rattle.std.specs.List.{flat_map}
 use Rattle.std.proofs.lemmas.List.Elements.{All-push}
-use Rattle.board_model.specs.Disk.{Disk}
+use Rattle.board_model.specs.Disk.{Disk, Unchanged}
 use Rattle.request_loop.specs.Exchange.{Exchange}
 use Rattle.factor_machine.specs.declared.entry.Request.{Request}
 use Rattle.factor_machine.specs.declared.entry.Answer.TheVariants.{NoMemory}
@@ -81,10 +81,11 @@ gives_parse_fault account caller line faults.NoMemory asked reply none =
 
 module _ {B : Type 0} (disk : B → Disk) (faults : B → ℕ) where
   -- before the first line
-  pub answered_none : (account : Account B) → Answered disk faults account account []
-  answered_none account = record {
+  pub answered_none : (account : Account B) → Unchanged (disk account.board) (disk account.board)
+      → Answered disk faults account account []
+  answered_none account same = record {
     turns = [];
-    continues = continues_none disk faults account;
+    continues = continues_none disk faults account same;
     output = output_none (name_of account) 0;
   }
 

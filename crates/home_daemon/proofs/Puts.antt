@@ -1,59 +1,80 @@
--- What stands under a record's name while it is put.
-use Rattle.std.proofs.Common.{◌≡◌, ◌≢◌, ◌⊎◌, inl, inr, ℕ, List, ◌++◌, Option, None, Some, refl, sym, ap, ◌∙◌, subst, ◌+◌, length, arith}
-use Rattle.std.specs.Prelude.{IfSome, IsTrue, codes}
-use Rattle.std.specs.FinMap.{get, insert, remove, contains_key, gets}
-use Rattle.std.proofs.Common.{rules}
-use Rattle.std.proofs.lemmas.List.{length-append}
+-- What a put of an account's record leaves, and the calls that change nothing.
+use Rattle.std.proofs.Common.{◌≡◌, ◌⊎◌, inl, inr, ⊎_elim, ℕ, List, [], ◌∷◌, ◌∙◌, subst, arith}
+use Rattle.std.specs.Prelude.{IsTrue}
+use Rattle.std.proofs.lemmas.Grind.{common_steps}
 use Rattle.fault_count.specs.Told.{Becomes}
-use Rattle.board_model.specs.Disk.{Image, Disk, Same, SameBut, Written, Renamed, Goes, GoesOrNot}
-use Rattle.board_model.specs.Files.{renamed}
-use Rattle.board_model.proofs.Effects.{becomes_weaker, becomes_then}
-use Rattle.board_model.proofs.Names.{get-inserted, renamed_there}
-use Rattle.home_daemon.specs.Stash.{temporary_name, Gets, KeepsOrGets}
+use Rattle.board_model.specs.Files.{IsTemporary}
+use Rattle.board_model.specs.Disk.{Image, Disk, Effect, Same, Follows, Leaves, Goes, Unchanged}
+use Rattle.board_model.proofs.Effects.{becomes_weaker, goes_weaker, goes_then, leaves_weaker, leaves_then}
+use Rattle.staged_file.specs.Staged.{Kept, KeptOr}
+use Rattle.staged_file.proofs.Staging.{kept_same}
+use Rattle.home_names.specs.Names.{is_account_name, stash_name}
+use Rattle.home_daemon.specs.Stash.{stash_bytes, PutsRecord, PutsAtMost, EachHas, Gets, KeepsOrGets}
 
--- the name of a record while it is written is another one
-pub not_temporary : (name temporary : List ℕ) → temporary ≡ temporary_name name → name ≢ temporary
-not_temporary name temporary is same =
-    let longer : length temporary ≡ length (codes "tmp-") + length name = ap length is ∙ length-append (codes "tmp-") name in
-    let even : length name ≡ length temporary = ap length same in
-    omega (arith, longer, even)
+-- a record's name isn't that of a temporary file
+pub not_temporary : (account : List ℕ) → IsTrue (is_account_name account) → ¬ IsTemporary (stash_name account)
+not_temporary [] plain temporary = grind (arith, common_steps, plain, temporary)
+not_temporary (a ∷ []) plain temporary = grind (arith, common_steps, plain, temporary)
+not_temporary (a ∷ b ∷ []) plain temporary = grind (arith, common_steps, plain, temporary)
+not_temporary (a ∷ b ∷ c ∷ []) plain temporary = grind (arith, common_steps, plain, temporary)
+not_temporary (a ∷ b ∷ c ∷ d ∷ rest) plain temporary = grind (arith, common_steps, plain, temporary)
 
--- what changes nothing that is there
-pub still : (R : Image → Image → Type 0) (a b now : Option Image) → now ≡ b → Becomes a b R → Becomes a now R
-still R a b now same becomes = subst (λ (image : Option Image). Becomes a image R) (sym same) becomes
+-- two calls that change nothing
+pub unchanged_then : (a b c : Disk) → Unchanged a b → Unchanged b c → Unchanged a c
+unchanged_then a b c first second = record {
+  now = second.now ∙ first.now;
+  goes = goes_then a b c Same Same Same (λ d e i one other. other ∙ one) first.goes second.goes;
+  crash = leaves_then a b c Same Same Same (λ d i same. same) (λ d e i one left other. other ∙ one) first.crash second.crash;
+}
 
-module _ (name temporary bytes : List ℕ) where
-  -- a file that was written is there
-  pub is_there : (a b : Option Image) → Becomes a b (Written temporary bytes)
-      → IfSome b (λ now. IsTrue (contains_key now.files temporary))
-  is_there None None is = tt
-  is_there None (Some b) is = absurd is
-  is_there (Some a) None is = absurd is
-  is_there (Some a) (Some b) is = rw is grind (gets, rules)
+module _ (account : List ℕ) where
+  abbrev Put : Effect
+  Put = PutsRecord account
 
-  -- a call that touches only the temporary file keeps the file
-  pub kept : (a b : Option Image) → name ≢ temporary → Becomes a b (SameBut temporary) → Becomes a b (KeepsOrGets name bytes)
-  kept a b apart = becomes_weaker (SameBut temporary) (KeepsOrGets name bytes) a b (λ old new same. inl (same.others name apart))
+  abbrev Gotten : Effect
+  Gotten = Gets (stash_name account) (stash_bytes account)
 
-  -- once it is renamed the file has what was written
-  pub moved : (a b c : Option Image) → Becomes a b (Written temporary bytes) → Becomes b c (Renamed temporary name)
-      → Becomes a c (Gets name bytes)
-  moved a b c = becomes_then (Written temporary bytes) (Renamed temporary name) (Gets name bytes) a b c
-      (λ old middle new written is.
-      let there : get middle.files temporary ≡ Some bytes =
-      ap (λ (image : Image). get image.files temporary) written ∙ get-inserted old.files temporary bytes in
-      ap (λ (image : Image). get image.files name) is
-      ∙ (ap (λ files. get files name) (renamed_there middle.files temporary name bytes there)
-      ∙ get-inserted (remove middle.files temporary) name bytes))
+  abbrev GottenOrKept : Effect
+  GottenOrKept = KeepsOrGets (stash_name account) (stash_bytes account)
 
-  -- and so it has or keeps where the renaming may not be done
-  pub moved_or_kept : (a b c : Disk) → name ≢ temporary → Becomes a.now b.now (SameBut temporary)
-      → Becomes a.now b.now (Written temporary bytes) → GoesOrNot b c (Renamed temporary name)
-      → Becomes a.now c.now (KeepsOrGets name bytes)
-  moved_or_kept a b c apart but written (inl same) =
-      becomes_then (KeepsOrGets name bytes) Same (KeepsOrGets name bytes) a.now b.now c.now
-      (λ old middle new keeps is. subst (KeepsOrGets name bytes old) (sym is) keeps)
-      (kept a.now b.now apart but) same.now
-  moved_or_kept a b c apart but written (inr renames) =
-      becomes_weaker (Gets name bytes) (KeepsOrGets name bytes) a.now c.now (λ old new gets. inr gets)
-      (moved a.now b.now c.now written renames.now)
+  -- nothing was changed
+  pub puts_none : (a b : Disk) → Unchanged a b → PutsAtMost account a b
+  puts_none a b same = record {
+    goes = goes_weaker a b Same (KeptOr Put) (λ d i one. inl (kept_same d i one)) same.goes;
+    any_moment = leaves_weaker a b Same (KeptOr Put) (λ d i one. inl (kept_same d i one)) same.crash;
+  }
+
+  -- nothing was changed before the put
+  pub puts_after : (a b c : Disk) → Unchanged a b → PutsAtMost account b c → PutsAtMost account a c
+  puts_after a b c same puts = record {
+    goes = goes_then a b c Same (KeptOr Put) (KeptOr Put)
+        (λ d e i one put. subst (λ (old : Image). KeptOr Put old i) one put) same.goes puts.goes;
+    any_moment = leaves_then a b c Same (KeptOr Put) (KeptOr Put) (λ d i one. inl (kept_same d i one))
+        (λ d e i one left put. subst (λ (old : Image). KeptOr Put old i) one put) same.crash puts.any_moment;
+  }
+
+  -- a put, done or not
+  pub puts_one : (a b : Disk) → Leaves a b (KeptOr Put) → Goes a b Kept ⊎ Goes a b Put → PutsAtMost account a b
+  puts_one a b leaves goes = record {
+    goes = ⊎_elim (λ kept. goes_weaker a b Kept (KeptOr Put) (λ d i one. inl one) kept)
+        (λ done. goes_weaker a b Put (KeptOr Put) (λ d i one. inr one) done) goes;
+    any_moment = leaves;
+  }
+
+  -- after one that is done the record is there
+  pub puts_gets : (a b : Disk) → Goes a b Put → Becomes a.now b.now Gotten
+  puts_gets a b goes = becomes_weaker Put Gotten a.now b.now (λ old new puts. puts.here) goes.now
+
+  -- and else it is there or as it was
+  pub puts_gets_or_keeps : (a b : Disk) → IsTrue (is_account_name account) → Goes a b Kept ⊎ Goes a b Put
+      → Becomes a.now b.now GottenOrKept
+  puts_gets_or_keeps a b plain goes =
+      ⊎_elim
+      (λ kept. becomes_weaker Kept GottenOrKept a.now b.now
+      (λ old new one. inl (one.others (stash_name account) (not_temporary account plain))) kept.now)
+      (λ done. becomes_weaker Put GottenOrKept a.now b.now (λ old new puts. inr puts.here) done.now)
+      goes
+
+  -- after one that is done each image has the record
+  pub each_has : (a b : Disk) → Follows Put a.may_leave b.may_leave → EachHas account b
+  each_has a b follows = λ i left. (follows i left).2.here

@@ -1,6 +1,5 @@
 -- The turns that the device steps of a create make.
-use Rattle.std.proofs.Common.{◌≡◌, ◌⊎◌, inl, inr, ℕ, List, Option, Some, refl, sym, subst}
-use Rattle.factor_machine.specs.declared.user.User.{User}
+use Rattle.std.proofs.Common.{◌≡◌, inl, inr, ℕ, Some, refl, sym, subst}
 use Rattle.factor_machine.specs.declared.user.Era.{Era}
 use Rattle.factor_machine.specs.declared.entry.Request.{Request}
 use Rattle.factor_machine.specs.declared.entry.Request.TheVariants.{Create}

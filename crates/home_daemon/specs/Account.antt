@@ -1,8 +1,8 @@
 -- What an account shows, and how it goes on through turns.
-use Rattle.std.specs.Prelude.{◌≡◌, ◌≤◌, ◌+◌, ◌-◌, ◌^◌, ℕ, min, Bool, List, [], ◌∷◌, ◌++◌, Option, IfSome}
+use Rattle.std.specs.Prelude.{◌≡◌, ◌⊎◌, ◌≤◌, ◌+◌, ◌-◌, ◌^◌, ℕ, min, Bool, List, [], ◌∷◌, ◌++◌, IfSome, IsTrue}
 use Rattle.fault_count.specs.Causes.{HasCause}
 use Rattle.fault_count.specs.Told.{Becomes}
-use Rattle.board_model.specs.Disk.{Image, Disk}
+use Rattle.board_model.specs.Disk.{Image, Disk, Unchanged}
 use Rattle.factor_machine.specs.declared.user.User.{User}
 use Rattle.factor_machine.specs.declared.user.Era.{Era}
 use Rattle.factor_machine.specs.declared.entry.Answer.{Answer}
@@ -12,7 +12,8 @@ use Rattle.factor_machine.specs.Legal.{IsLegal, opened}
 use Rattle.home_daemon.specs.declared.account.Account.{Account}
 use Rattle.home_daemon.specs.declared.account.OpenFault.{OpenFault}
 use Rattle.home_daemon.specs.declared.account.OpenFault.TheVariants as OpenFaults
-use Rattle.home_daemon.specs.Stash.{HoldsUser, Has}
+use Rattle.home_names.specs.Names.{is_account_name}
+use Rattle.home_daemon.specs.Stash.{HoldsUser, Has, PutsAtMost, EachHas}
 use Rattle.home_daemon.specs.Home.{user_in, NamesDamage}
 
 -- how many storage faults an answer is
@@ -54,6 +55,17 @@ pub record StaysHeld (account : List ℕ) (after : User) (turns : List Entry) (n
   pub held : HoldsUser new.files account after
   pub sound : AreSound turns
 
+-- one of these turns answered ok
+abbrev pub HasOk : List Entry → Type 0
+HasOk [] = ⊥
+HasOk (turn ∷ turns) = (turn.answer ≡ Ok) ⊎ HasOk turns
+
+-- What a crash may leave of these turns: at each moment each image is one from before, with the account's
+-- record put or without; and once a turn has answered ok, each has the record.
+pub record Survives (account : List ℕ) (turns : List Entry) (old new : Disk) : Type 0 where
+  pub any_moment : PutsAtMost account old new
+  pub durable : HasOk turns → EachHas account new
+
 module _ {B : Type 0} where
   abbrev pub name_of : Account B → List ℕ
   name_of account = account.stash
@@ -64,15 +76,20 @@ module _ {B : Type 0} where
   abbrev pub entries_of : Account B → List Entry
   entries_of account = account.entries.items
 
+  abbrev pub board_of : Account B → B
+  board_of account = account.board
+
   -- The account went on from one state to the other by these turns, in its book and on its board.
   pub record Continues (disk : B → Disk) (faults : B → ℕ) (before after : Account B) (turns : List Entry) : Type 0 where
     pub name : name_of after ≡ name_of before
     pub book : entries_of after ≡ entries_of before ++ turns
     pub legal : (era : Era) → IsLegal era (user_of before) turns (user_of after)
-    pub content : Becomes (disk before.board).now (disk after.board).now
+    pub content : Becomes (disk (board_of before)).now (disk (board_of after)).now
         (λ old new. HoldsUser old.files (name_of before) (user_of before)
         → StaysHeld (name_of before) (user_of after) turns new)
-    pub cause : Explains (faults before.board) (faults after.board) (storage_faults turns)
+    pub cause : Explains (faults (board_of before)) (faults (board_of after)) (storage_faults turns)
+    pub crash : IsTrue (is_account_name (name_of before))
+        → Survives (name_of before) turns (disk (board_of before)) (disk (board_of after))
 
   -- an account that was opened over a board with an empty book, at this moment
   pub record Opens (disk : B → Disk) (faults : B → ℕ) (board : B) (name : List ℕ) (moment : ℕ) (account : Account B) : Type 0 where
@@ -81,12 +98,13 @@ module _ {B : Type 0} where
     pub empty : entries_of account ≡ []
     pub user_is : user_of account ≡ opened (record { made = made; next = 1 }) moment
     pub found : IfSome (disk board).now (λ now. Has now.files name made)
-    pub same : (disk account.board).now ≡ (disk board).now
-    pub quiet : faults account.board ≡ faults board
+    pub plain : IsTrue (is_account_name name)
+    pub unchanged : Unchanged (disk board) (disk (board_of account))
+    pub quiet : faults (board_of account) ≡ faults board
 
   -- an account that couldn't be opened over a board, and the board then
   pub record Refuses (disk : B → Disk) (faults : B → ℕ) (before : B) (name : List ℕ) (fault : OpenFault) (after : B) : Type 0 where
     pub cause : HasCause (faults before) (faults after) (fault ≡ OpenFaults.Failed)
     pub damaged : (record_name : List ℕ) → fault ≡ OpenFaults.Damaged record_name
         → NamesDamage (disk before).now name record_name
-    pub same : (disk after).now ≡ (disk before).now
+    pub unchanged : Unchanged (disk before) (disk after)

@@ -1,6 +1,5 @@
 -- The user that a home without factors stands for, and how a turn changes it.
-use Rattle.std.specs.Prelude.{◌≡◌, ◌⊎◌, ℕ, Bool, true, false, List, Option, None, Some, IfSome}
-use Rattle.board_model.specs.Files.{Files}
+use Rattle.std.specs.Prelude.{◌≡◌, ℕ, Bool, true, false, List, Option, None, Some, IfSome}
 use Rattle.board_model.specs.Disk.{Image}
 use Rattle.factor_machine.specs.declared.user.User.{User}
 use Rattle.home_daemon.specs.declared.home.HomeState.{HomeState}

@@ -9,12 +9,13 @@ ghost use Rattle.factor_machine.specs.declared.entry.Request.{Request as Request
 ghost use Rattle.factor_machine.specs.declared.entry.Turn.TheVariants.{Act};
 ghost use Rattle.factor_machine.specs.declared.entry.Answer.TheVariants.{Damaged};
 ghost use Rattle.factor_machine.specs.Step.{Turned};
+ghost use Rattle.board_model.specs.Disk.{Unchanged};
 ghost use Rattle.home_names.specs.Names.{is_account_name, stash_name};
 ghost use Rattle.request_lang.specs.Replies.{NamesRecord};
 ghost use Rattle.home_daemon.specs.Home.{user_in, HoldsOutside, FindsHome, NamesDamage};
-ghost use Rattle.home_daemon.specs.Stash.{HoldsUser};
+ghost use Rattle.home_daemon.specs.Stash.{HoldsUser, PutsAtMost, EachHas};
 ghost use Rattle.home_daemon.specs.Turns.{TakesTurn, answer_of, IsActOf};
-ghost use Rattle.home_daemon.specs.Account.{Continues, Opens, Refuses, name_of, entries_of};
+ghost use Rattle.home_daemon.specs.Account.{Continues, Opens, Refuses, name_of, entries_of, board_of};
 
 use crate::home::{Creation, create, reload, state_of};
 use crate::stash::{RecordFault, StashRecord};
@@ -65,6 +66,8 @@ fn take_turn<B: Board>(
         (user_in home.new last) }
     ensures content { Becomes (B.disk board.old).now (B.disk board.new).now
         (TakesTurn stash.now home.old home.new result.1) }
+    ensures any_moment { PutsAtMost stash.now (B.disk board.old) (B.disk board.new) }
+    ensures durable { result.1 ≡ TurnEnd.Done → EachHas stash.now (B.disk board.new) }
     ensures damaged { result.1 ≡ TurnEnd.Damaged
         → HoldsOutside (B.disk board.old).now stash.now }
     ensures cause { HasCause (B.faults board.old) (B.faults board.new)
@@ -94,7 +97,7 @@ fn take_turn<B: Board>(
 pub struct Account<B> {
     alloc: Global,
     stash: StashRecord,
-    board: B,
+    pub(crate) board: B,
     home: HomeState,
     last: u64,
     steps: u64,
@@ -129,7 +132,7 @@ fn read_home<B: Board>(
     ensures found { IfOk result (λ home. FindsHome (B.disk board.old).now stash.now home) }
     ensures damaged { (name : List ℕ) → result ≡ Err (OpenFault.Damaged name)
         → NamesDamage (B.disk board.old).now stash.now name }
-    ensures same { (B.disk board.new).now ≡ (B.disk board.old).now }
+    ensures unchanged { Unchanged (B.disk board.old) (B.disk board.new) }
     ensures cause { HasCause (B.faults board.old) (B.faults board.new)
         (result ≡ Err OpenFault.Failed) }
 {
@@ -186,7 +189,7 @@ impl<B: Board + Drop> Account<B> {
 
     /// The board and the book. Takes no memory.
     pub fn close(self) -> (B, Book)
-        ensures board { result.0 ≡ self.board }
+        ensures board { result.0 ≡ board_of self }
         ensures account { result.1.account ≡ name_of self }
         ensures entries { result.1.entries ≡ entries_of self }
     {
@@ -206,9 +209,15 @@ impl<B: Board + Drop> Account<B> {
             × IsActOf 0 number request answer turn
             × Continues B.disk B.faults self.old self.new (turn ∷ [])) }
         ensures err { OnErr result (Continues B.disk B.faults self.old self.new []) }
+        // At each moment each image is one from before with the account's record put, or without.
+        ensures any_moment { PutsAtMost (name_of self.old)
+            (B.disk (board_of self.old)) (B.disk (board_of self.new)) }
+        // After ok each image has the record.
+        ensures durable { result ≡ Ok Answer.Ok
+            → EachHas (name_of self.old) (B.disk (board_of self.new)) }
         ensures names { IfOk result NamesRecord }
         ensures damaged { IfOk result (λ answer. (name : List ℕ) → answer ≡ Damaged name
-            → NamesDamage (B.disk self.old.board).now (name_of self.old) name) }
+            → NamesDamage (B.disk (board_of self.old)).now (name_of self.old) name) }
     {
         self.entries.reserve(1)?;
         let name = self.stash.name()?;

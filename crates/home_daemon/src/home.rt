@@ -3,7 +3,9 @@
 ghost use Rattle.std.specs.Prelude.{◌≡◌, ◌≢◌, ℕ, Some, IfOk, OnErr, if◌then◌else◌};
 ghost use Rattle.fault_count.specs.Causes.{HasCause};
 ghost use Rattle.fault_count.specs.Told.{Becomes};
+ghost use Rattle.board_model.specs.Disk.{Unchanged};
 ghost use Rattle.factor_machine.specs.Reload.{reloaded};
+ghost use Rattle.home_daemon.specs.Stash.{PutsAtMost, EachHas};
 ghost use Rattle.home_daemon.specs.Home.{user_in, Holding, HoldsOutside, Creates};
 
 use crate::stash::{RecordFault, StashRecord};
@@ -42,9 +44,7 @@ pub(crate) fn state_of(made: bool) -> HomeState
     }
 }
 
-/// Finds out where it is unsure whether the record is there, and tells it.
-///
-/// The directory is synced first, so that no crash takes back what is told.
+/// Finds out where it is unsure whether the record is there, and tells it. No crash takes it back.
 pub(crate) fn reload<B: Board>(
     alloc: Global,
     stash: &StashRecord,
@@ -58,6 +58,7 @@ pub(crate) fn reload<B: Board>(
     ensures unsure { OnErr result (home.old ≡ HomeState.Unsure) }
     ensures content { Becomes (B.disk board.old).now (B.disk board.new).now
         (Holding stash.now home.old home.new) }
+    ensures unchanged { Unchanged (B.disk board.old) (B.disk board.new) }
     ensures damaged { result ≡ Err RecordFault.Damaged
         → HoldsOutside (B.disk board.old).now stash.now }
     ensures cause { HasCause (B.faults board.old) (B.faults board.new)
@@ -66,10 +67,7 @@ pub(crate) fn reload<B: Board>(
     if *home != HomeState::Unsure {
         return Ok(Told::Settled);
     }
-    if board.sync_dir().is_err() {
-        return Err(RecordFault::Failed);
-    }
-    let made = stash.read(alloc, board)?;
+    let made = stash.read_synced(alloc, board)?;
     *home = state_of(made);
     Ok(if made { Told::After } else { Told::Before })
 }
@@ -80,6 +78,8 @@ pub(crate) fn create<B: Board>(stash: &StashRecord, board: &mut B, home: &mut Ho
     ensures created { Creates home.old result home.new }
     ensures content { Becomes (B.disk board.old).now (B.disk board.new).now
         (Holding stash.now home.old home.new) }
+    ensures any_moment { PutsAtMost stash.now (B.disk board.old) (B.disk board.new) }
+    ensures durable { result ≡ Creation.Done → EachHas stash.now (B.disk board.new) }
     ensures cause { HasCause (B.faults board.old) (B.faults board.new)
         (result ≡ Creation.Failed) }
 {

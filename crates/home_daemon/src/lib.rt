@@ -8,6 +8,8 @@ mod desk;
 mod home;
 mod line_client;
 mod stash;
+#[cfg(test)]
+mod tests;
 
 pub use account::{Account, OpenFault};
 pub use book::{Book, Entries};

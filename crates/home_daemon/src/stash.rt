@@ -1,11 +1,11 @@
 //! The stash record of a home without factors: how it is put and read.
 
-ghost use Rattle.std.specs.Prelude.{◌≡◌, ◌⊎◌, ◌≤◌, ◌++◌, true, length, IsTrue, IfOk, OnOk, IsErr, IfSome};
-ghost use Rattle.std.specs.FinMap.{get};
+ghost use Rattle.std.specs.Prelude.{◌≡◌, ◌≤◌, ◌++◌, length, IsTrue, IfOk, OnOk, IsErr, IfSome};
 ghost use Rattle.fault_count.specs.Causes.{HasCause};
 ghost use Rattle.fault_count.specs.Told.{Becomes};
+ghost use Rattle.board_model.specs.Disk.{Unchanged};
 ghost use Rattle.home_names.specs.Names.{is_account_name, stash_name};
-ghost use Rattle.home_daemon.specs.Stash.{stash_bytes, temporary_name, Has, IsOutside, Gets, KeepsOrGets};
+ghost use Rattle.home_daemon.specs.Stash.{stash_bytes, Has, IsOutside, Gets, KeepsOrGets, PutsAtMost, EachHas};
 
 use board_model::{Board, BoardFault};
 use ct_bytes::{Blob, NoMemory, Text};
@@ -32,13 +32,12 @@ pub(crate) enum RecordFault {
     NoMemory,
 }
 
-/// The stash record of one account, seen as the account's name. It has the texts and bytes that a
+/// The stash record of one account, seen as the account's name. It has the text and the bytes that a
 /// put needs, so that a put takes no memory.
 #[derive(Drop)]
 pub(crate) struct StashRecord {
     account: Text,
     name: Text,
-    temporary: Text,
     bytes: Blob,
 }
 
@@ -50,7 +49,7 @@ impl Model for StashRecord {
 
     ghost view = { λ r. r.account };
 
-    ghost invariant = { λ r. IsStashRecord r.account r.name r.temporary r.bytes };
+    ghost invariant = { λ r. IsStashRecord r.account r.name r.bytes };
 }
 
 // A text with another one behind it.
@@ -73,22 +72,6 @@ fn record_bytes(alloc: Global, account: &str) -> Result<Blob, NoMemory>
     Ok(bytes)
 }
 
-// Puts a file by way of a temporary one, so that it never holds a part of the bytes.
-fn put_by<B: Board>(board: &mut B, temporary: &str, name: &str, bytes: &[u8]) -> Result<(), Failed>
-    requires { temporary.now ≡ temporary_name name.now }
-    ensures done { OnOk result (Becomes (B.disk board.old).now (B.disk board.new).now
-        (Gets name.now bytes.now)) }
-    ensures done_or_not { Becomes (B.disk board.old).now (B.disk board.new).now
-        (KeepsOrGets name.now bytes.now) }
-    ensures cause { HasCause (B.faults board.old) (B.faults board.new) (IsErr result) }
-{
-    board.write_temp(temporary, bytes)?;
-    board.sync_temp(temporary)?;
-    board.rename(temporary, name)?;
-    board.sync_dir()?;
-    Ok(())
-}
-
 impl StashRecord {
     /// The record of this account, whether it is there or not.
     pub(crate) fn of(alloc: Global, account: &str) -> Result<StashRecord, NoMemory>
@@ -96,13 +79,11 @@ impl StashRecord {
         ensures value { IfOk result (λ made. made ≡ account.now) }
     {
         let name = joined(alloc, account, ".stash")?;
-        let temporary = joined(alloc, "tmp-", name.as_str())?;
         let bytes = record_bytes(alloc, account)?;
         let account = Text::from_str(alloc, account)?;
         Ok(StashRecord {
             account,
             name,
-            temporary,
             bytes,
         })
     }
@@ -129,20 +110,17 @@ impl StashRecord {
         self.name.copy()
     }
 
-    /// Puts the record. After a fault it is there or as before.
+    /// Puts the record, whole or not at all. After a fault it is there or as before.
     pub(crate) fn put<B: Board>(&self, board: &mut B) -> Result<(), Failed>
+        ensures any_moment { PutsAtMost self.now (B.disk board.old) (B.disk board.new) }
+        ensures durable { OnOk result (EachHas self.now (B.disk board.new)) }
         ensures done { OnOk result (Becomes (B.disk board.old).now (B.disk board.new).now
             (Gets (stash_name self.now) (stash_bytes self.now))) }
         ensures done_or_not { Becomes (B.disk board.old).now (B.disk board.new).now
             (KeepsOrGets (stash_name self.now) (stash_bytes self.now)) }
         ensures cause { HasCause (B.faults board.old) (B.faults board.new) (IsErr result) }
     {
-        put_by(
-            board,
-            self.temporary.as_str(),
-            self.name.as_str(),
-            self.bytes.as_slice(),
-        )
+        staged_file::put(board, self.name.as_str(), self.bytes.as_slice())
     }
 
     /// Whether the record is there. Changes nothing.
@@ -153,7 +131,7 @@ impl StashRecord {
             (λ now. Has now.files self.now made)) }
         ensures damaged { result ≡ Err RecordFault.Damaged → IfSome (B.disk board.old).now
             (λ now. IsOutside now.files self.now) }
-        ensures same { (B.disk board.new).now ≡ (B.disk board.old).now }
+        ensures unchanged { Unchanged (B.disk board.old) (B.disk board.new) }
         ensures cause { HasCause (B.faults board.old) (B.faults board.new)
             (result ≡ Err RecordFault.Failed) }
     {
@@ -169,5 +147,25 @@ impl StashRecord {
             Err(BoardFault::Failed) => Err(RecordFault::Failed),
             Err(BoardFault::NoMemory) => Err(RecordFault::NoMemory),
         }
+    }
+
+    /// The same once the directory is synced, so that no crash takes back what is read.
+    pub(crate) fn read_synced<B: Board>(
+        &self,
+        alloc: Global,
+        board: &mut B,
+    ) -> Result<bool, RecordFault>
+        ensures found { IfOk result (λ made. IfSome (B.disk board.old).now
+            (λ now. Has now.files self.now made)) }
+        ensures damaged { result ≡ Err RecordFault.Damaged → IfSome (B.disk board.old).now
+            (λ now. IsOutside now.files self.now) }
+        ensures unchanged { Unchanged (B.disk board.old) (B.disk board.new) }
+        ensures cause { HasCause (B.faults board.old) (B.faults board.new)
+            (result ≡ Err RecordFault.Failed) }
+    {
+        if board.sync_dir().is_err() {
+            return Err(RecordFault::Failed);
+        }
+        self.read(alloc, board)
     }
 }

@@ -1,4 +1,5 @@
-use Rattle.std.proofs.Common.{◌≡◌, ◌<◌, ◌^◌, max, ℕ, List, ◌∷◌, [], ◌++◌, refl, sym, subst, ap, ◌∙◌, arith}
+use Rattle.std.proofs.Common.{◌≡◌, Result, Ok, Err, ◌<◌, ◌^◌, max, List, ◌∷◌, [], ◌++◌, refl, sym, subst, ap, ◌∙◌, arith}
+use Rattle.std.specs.Prelude.{OnErr}
 use Rattle.std.proofs.lemmas.Grind.{common_steps}
 use Rattle.factor_machine.specs.declared.entry.Turn.TheVariants.{Act}
 use Rattle.factor_machine.specs.declared.entry.Entry.{Entry}
@@ -6,8 +7,15 @@ use Rattle.factor_machine.specs.declared.entry.Answer.{Answer}
 use Rattle.factor_machine.specs.Step.{Turned}
 use Rattle.home_daemon.specs.Home.{user_in}
 use Rattle.home_daemon.specs.Turns.{answer_of, cut_moment}
-use Rattle.home_daemon.proofs.Going.{legal_turn, held_turn, explained_turn}
+use Rattle.board_model.proofs.Effects.{unchanged_none}
+use Rattle.home_daemon.proofs.Puts.{puts_none}
+use Rattle.home_daemon.proofs.Continuing.{continues_still}
+use Rattle.home_daemon.proofs.Going.{legal_turn, held_turn, explained_turn, done_by}
 use Rattle.home_daemon.proofs.account.Account.act.Goals as goal
+
+on_err : {A E P : Type 0} (result : Result A E) → P → OnErr result P
+on_err (Ok x) holds = tt
+on_err (Err e) holds = holds
 
 -- the entry that is noted is the turn
 pub returns-clause-turn : goal.returns-clause-turn
@@ -44,5 +52,40 @@ returns-clause-turn g c =
             (sym answered) (taken.ensures.turned era c.args.request c.in_ok-name.name turn.moment));
         content = held_turn _ _ before.stash c.in_ok-name.name before.home taken.new.home before.last end turn answered taken.ensures.content;
         cause = explained_turn _ _ end c.in_ok-name.name turn answered taken.ensures.cause;
+        crash = λ plain. record {
+          any_moment = taken.ensures.any_moment;
+          durable = λ has. taken.ensures.durable (done_by end c.in_ok-name.name turn answered has);
+        };
       },
     )
+
+-- without memory nothing is done
+pub returns-in_err-reserve-clause-any_moment : goal.returns-in_err-reserve-clause-any_moment
+returns-in_err-reserve-clause-any_moment g c =
+    puts_none c.args.self.now.stash _ _
+    (unchanged_none (g.B.Board.disk c.args.self.now.board) (g.met.B.Board.only_now c.args.self.now.board))
+
+pub returns-in_err-name-clause-any_moment : goal.returns-in_err-name-clause-any_moment
+returns-in_err-name-clause-any_moment g c =
+    puts_none c.args.self.now.stash _ _
+    (unchanged_none (g.B.Board.disk c.args.self.now.board) (g.met.B.Board.only_now c.args.self.now.board))
+
+pub returns-in_err-copy-clause-any_moment : goal.returns-in_err-copy-clause-any_moment
+returns-in_err-copy-clause-any_moment g c =
+    puts_none c.args.self.now.stash _ _
+    (unchanged_none (g.B.Board.disk c.args.self.now.board) (g.met.B.Board.only_now c.args.self.now.board))
+
+pub returns-in_err-reserve-clause-err : goal.returns-in_err-reserve-clause-err
+returns-in_err-reserve-clause-err g c =
+    on_err _ (continues_still g.B.Board.disk g.B.Board.faults c.args.self.now _ refl c.reserve.ensures.items refl
+    (unchanged_none (g.B.Board.disk c.args.self.now.board) (g.met.B.Board.only_now c.args.self.now.board)) refl)
+
+pub returns-in_err-name-clause-err : goal.returns-in_err-name-clause-err
+returns-in_err-name-clause-err g c =
+    on_err _ (continues_still g.B.Board.disk g.B.Board.faults c.args.self.now _ refl c.reserve.ensures.items refl
+    (unchanged_none (g.B.Board.disk c.args.self.now.board) (g.met.B.Board.only_now c.args.self.now.board)) refl)
+
+pub returns-in_err-copy-clause-err : goal.returns-in_err-copy-clause-err
+returns-in_err-copy-clause-err g c =
+    on_err _ (continues_still g.B.Board.disk g.B.Board.faults c.args.self.now _ refl c.reserve.ensures.items refl
+    (unchanged_none (g.B.Board.disk c.args.self.now.board) (g.met.B.Board.only_now c.args.self.now.board)) refl)

@@ -1,4 +1,4 @@
-use Rattle.std.proofs.Common.{◌≡◌, ℕ, List, [], ◌∷◌, ◌++◌, Err, inl, refl, ap, ◌∙◌}
+use Rattle.std.proofs.Common.{ℕ, List, [], ◌++◌, Err, inl, refl, ap, ◌∙◌}
 use Rattle.request_loop.specs.Lines.{line_seen}
 use Rattle.request_loop.specs.declared.line.Line.{Line}
 use Rattle.request_lang.specs.declared.line.LineFault.TheVariants.{NotBuilt}
@@ -6,6 +6,7 @@ use Rattle.request_lang.specs.Replies.{answer_text, fault_text}
 use Rattle.home_daemon.specs.Account.{name_of}
 use Rattle.home_daemon.specs.Output.{LineTurns, asked_by}
 use Rattle.home_daemon.specs.Answered.{account_of}
+use Rattle.board_model.proofs.Effects.{unchanged_none}
 use Rattle.home_daemon.proofs.Continuing.{continues_none}
 use Rattle.home_daemon.proofs.Outputs.{gives_parse_fault, gives_request, answered_push}
 use Rattle.home_daemon.proofs.line_client.LineClientService.answer.Goals as goal
@@ -22,7 +23,8 @@ returns-in-TooLong-clause-answered g c = λ start earlier before.
     let asked = ap (λ (line : Line). asked_by (line_seen line)) c.in-TooLong.is in
     answered_push g.B.Board.disk g.B.Board.faults (account_of start) account account earlier line
     (gives_parse_fault (name_of account) 0 line NotBuilt (λ is. asked) reply refl)
-    (continues_none g.B.Board.disk g.B.Board.faults account) before
+    (continues_none g.B.Board.disk g.B.Board.faults account
+    (unchanged_none (g.B.Board.disk account.board) (g.met.B.Board.only_now account.board))) before
 
 -- nor does one that isn't a request, unless there was no memory
 pub returns-in-Err-clause-answered : goal.returns-in-Err-clause-answered
@@ -38,7 +40,8 @@ returns-in-Err-clause-answered g c = λ start earlier before.
     answered_push g.B.Board.disk g.B.Board.faults (account_of start) account account earlier line
     (gives_parse_fault (name_of account) 0 line fault
     (λ is. seen ∙ c.parse_line.ensures.not_built (c.in-Err.is ∙ ap Err is)) reply refl)
-    (continues_none g.B.Board.disk g.B.Board.faults account) before
+    (continues_none g.B.Board.disk g.B.Board.faults account
+    (unchanged_none (g.B.Board.disk account.board) (g.met.B.Board.only_now account.board))) before
 
 -- a request makes its turns
 pub returns-in-Ok-clause-answered : goal.returns-in-Ok-clause-answered
