@@ -1,6 +1,7 @@
 -- What a run did, from what the account and the client's loop did.
 use Rattle.std.proofs.Common.{◌≡◌, ◌⊎◌, inl, inr, ℕ, List, [], ◌∷◌, ◌++◌, Bool, Option, None, Some, refl, sym, ap, ◌∙◌, subst, ◌≤◌, arith}
-use Rattle.std.specs.Prelude.{IfSome, MatchOption}
+use Rattle.std.specs.Prelude.{IfSome, IsTrue, MatchOption}
+use Rattle.home_names.specs.Names.{is_account_name}
 use Rattle.fault_count.specs.Causes.{Rose}
 use Rattle.fault_count.specs.Told.{Becomes}
 use Rattle.board_model.specs.Disk.{Image, Disk}
@@ -14,7 +15,8 @@ use Rattle.home_daemon.specs.declared.account.Account.{Account}
 use Rattle.home_daemon.specs.declared.book.Book.{Book}
 use Rattle.home_daemon.specs.declared.desk.Client.{Client}
 use Rattle.home_daemon.specs.Stash.{Has, HoldsUser}
-use Rattle.home_daemon.specs.Account.{Continues, Opens, StaysHeld, Explains, storage_faults, name_of, user_of, entries_of}
+use Rattle.home_daemon.proofs.Surviving.{survives_after}
+use Rattle.home_daemon.specs.Account.{Continues, Opens, Survives, StaysHeld, Explains, storage_faults, name_of, user_of, entries_of}
 use Rattle.home_daemon.specs.Output.{IsOutput}
 use Rattle.cryptohome_cli.specs.Served.{ServesClient}
 use Rattle.cryptohome_cli.specs.declared.outcome.Ending.{Ending}
@@ -31,7 +33,7 @@ since P Q (Some old) None holds goes = goes
 since P Q (Some old) (Some new) holds goes = goes holds
 
 module _ {B S K C : Type 0} (disk : B → Disk) (board_faults : B → ℕ)
-    (left : S → Option (List ℕ)) (source_faults : S → ℕ)
+    (left : S → Option (List ℕ)) (taken source_faults : S → ℕ)
     (written : K → Option (List ℕ)) (sink_faults : K → ℕ)
     (given : C → Option (List ℕ)) where
   -- the history of an account from its opening
@@ -55,11 +57,20 @@ module _ {B S K C : Type 0} (disk : B → Disk) (board_faults : B → ℕ)
             (subst (λ (user : User). IsLegal era user turns (user_of now)) opens.user_is (goes.legal era));
         held = subst (λ (entries : List Entry). Becomes (disk board).now (disk now.board).now (λ old new. StaysHeld name (user_of now) entries new)) (sym same)
             (subst (λ (name : List ℕ). Becomes (disk board).now (disk now.board).now (λ old new. StaysHeld name (user_of now) turns new)) opens.name_is
-            (subst (λ (image : Option Image). Becomes image (disk now.board).now (λ old new. StaysHeld (name_of account) (user_of now) turns new)) opens.same held));
+            (subst (λ (image : Option Image). Becomes image (disk now.board).now (λ old new. StaysHeld (name_of account) (user_of now) turns new)) opens.unchanged.now held));
+        crash = subst (λ (entries : List Entry). Survives name entries (disk board) (disk now.board)) (sym same)
+            (survives_after name turns (disk board) (disk account.board) (disk now.board) opens.unchanged
+            (crash_of opens.name_is opens.plain));
         cause = subst (λ (entries : List Entry). Explains (board_faults board) (board_faults now.board) (storage_faults entries)) (sym same)
             (subst (λ (before : ℕ). Explains before (board_faults now.board) (storage_faults turns)) opens.quiet goes.cause);
       }
     where
+      crash_of : name_of account ≡ name → IsTrue (is_account_name name)
+          → Survives name turns (disk account.board) (disk now.board)
+      crash_of is plain =
+          subst (λ (name : List ℕ). Survives name turns (disk account.board) (disk now.board)) is
+          (goes.crash (subst (λ (name : List ℕ). IsTrue (is_account_name name)) (sym is) plain))
+
       holds_if : (now : Option Image) (made : Bool) → IfSome now (λ image. Has image.files name made)
           → IfSome now (λ image. HoldsUser image.files name (opened (record { made = made; next = 1 }) moment))
       holds_if None made has = tt
@@ -68,7 +79,7 @@ module _ {B S K C : Type 0} (disk : B → Disk) (board_faults : B → ℕ)
       found_at : (account : Account B) → Opens disk board_faults board name moment account
           → IfSome (disk account.board).now (λ image. HoldsUser image.files (name_of account) (user_of account))
       found_at account opens =
-          subst (λ (now : Option Image). IfSome now (λ image. HoldsUser image.files (name_of account) (user_of account))) (sym opens.same)
+          subst (λ (now : Option Image). IfSome now (λ image. HoldsUser image.files (name_of account) (user_of account))) (sym opens.unchanged.now)
           (subst (λ (name : List ℕ). IfSome (disk board).now (λ image. HoldsUser image.files name (user_of account))) (sym opens.name_is)
           (subst (λ (user : User). IfSome (disk board).now (λ image. HoldsUser image.files name user)) (sym opens.user_is)
           (holds_if (disk board).now opens.made opens.found)))
@@ -77,11 +88,11 @@ module _ {B S K C : Type 0} (disk : B → Disk) (board_faults : B → ℕ)
   pub served_until : (end : LoopEnd) (name : List ℕ) (board : B) (account now : Account B) (before after : Client S K C)
       (book : Book) (handed : Handed B S K C) (left_over : Left B S K C)
       → Opens disk board_faults board name handed.moment account
-      → ServesClient disk board_faults left source_faults written sink_faults given end account now before after
+      → ServesClient disk board_faults left taken source_faults written sink_faults given end account now before after
       → handed.board board → handed.client before
       → left_over.board ≡ Some now.board → left_over.clients ≡ after ∷ [] → left_over.books ≡ book ∷ []
       → book.account ≡ name_of now → book.entries ≡ entries_of now
-      → ServedUntil disk board_faults left source_faults written sink_faults given end name handed left_over
+      → ServedUntil disk board_faults left taken source_faults written sink_faults given end name handed left_over
   served_until end name board account now before after book handed left_over opens serves from_desk client_from_desk board_is clients_are books_are account_is entries_are =
       let goes = serves.answered.continues in
       let turns = serves.answered.turns in
@@ -106,14 +117,15 @@ module _ {B S K C : Type 0} (disk : B → Disk) (board_faults : B → ℕ)
         moments = serves.moments;
         lines = serves.lines;
         replies = serves.replies;
+        limit = serves.limit;
         source_cause = serves.source_cause;
         sink_cause = serves.sink_cause;
       }
 
   -- did what its ending says
   pub served_did : (end : LoopEnd) (name : List ℕ) (handed : Handed B S K C) (left_over : Left B S K C)
-      → ServedUntil disk board_faults left source_faults written sink_faults given end name handed left_over
-      → Did disk board_faults left source_faults written sink_faults given (ending_of end) name handed left_over
+      → ServedUntil disk board_faults left taken source_faults written sink_faults given end name handed left_over
+      → Did disk board_faults left taken source_faults written sink_faults given (ending_of end) name handed left_over
   served_did ends.End name handed left_over served = served
   served_did ends.SourceFault name handed left_over served = inr (inl served)
   served_did ends.SinkFault name handed left_over served = inr (inr served)
@@ -132,12 +144,12 @@ pub rose_before : (before middle after : ℕ) → before ≤ middle → Rose mid
 rose_before before middle after less rose = omega (arith, less, rose)
 
 module _ {B S K C : Type 0} (disk : B → Disk) (board_faults : B → ℕ)
-    (left : S → Option (List ℕ)) (source_faults : S → ℕ)
+    (left : S → Option (List ℕ)) (taken source_faults : S → ℕ)
     (written : K → Option (List ℕ)) (sink_faults : K → ℕ)
     (given : C → Option (List ℕ)) (earlier later : Handed B S K C) (from : HandedFrom earlier later) where
   until_from : (end : LoopEnd) (name : List ℕ) (left_over : Left B S K C)
-      → ServedUntil disk board_faults left source_faults written sink_faults given end name later left_over
-      → ServedUntil disk board_faults left source_faults written sink_faults given end name earlier left_over
+      → ServedUntil disk board_faults left taken source_faults written sink_faults given end name later left_over
+      → ServedUntil disk board_faults left taken source_faults written sink_faults given end name earlier left_over
   until_from end name left_over served = record {
     board_before = served.board_before;
     board_after = served.board_after;
@@ -157,14 +169,15 @@ module _ {B S K C : Type 0} (disk : B → Disk) (board_faults : B → ℕ)
     moments = served.moments;
     lines = served.lines;
     replies = served.replies;
+    limit = served.limit;
     source_cause = served.source_cause;
     sink_cause = served.sink_cause;
   }
 
   -- what a run did by what was handed out later
   pub did_from : (ending : Ending) (name : List ℕ) (left_over : Left B S K C)
-      → Did disk board_faults left source_faults written sink_faults given ending name later left_over
-      → Did disk board_faults left source_faults written sink_faults given ending name earlier left_over
+      → Did disk board_faults left taken source_faults written sink_faults given ending name later left_over
+      → Did disk board_faults left taken source_faults written sink_faults given ending name earlier left_over
   did_from Served name left_over did = until_from ends.End name left_over did
   did_from BadWords name left_over did = did
   did_from BoardFault name left_over (inl rose) = inl (from.rose rose)

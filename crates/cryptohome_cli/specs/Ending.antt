@@ -35,6 +35,10 @@ ending_of ends.NoMemory = NoMemory
 abbrev pub IsUnasked : Ending → Type 0
 IsUnasked ending = (ending ≡ BadWords) ⊎ (ending ≡ NoMemory)
 
+-- the client was served, or there was no memory
+abbrev pub EndsWell : ℕ → Type 0
+EndsWell status = (status ≡ status_of Served) ⊎ (status ≡ status_of NoMemory)
+
 -- the status and the text are the ending's, or there was no memory for any text
 pub record Shows (ending : Ending) (status : ℕ) (said : List ℕ) : Type 0 where
   pub status_is : status ≡ status_of ending

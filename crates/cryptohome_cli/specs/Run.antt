@@ -16,8 +16,10 @@ use Rattle.home_daemon.specs.declared.book.Book.{Book}
 use Rattle.home_daemon.specs.declared.desk.Client.{Client}
 use Rattle.home_daemon.specs.Stash.{Has}
 use Rattle.home_daemon.specs.Home.{HoldsOutside}
-use Rattle.home_daemon.specs.Account.{StaysHeld, Explains, storage_faults}
+use Rattle.home_daemon.specs.Account.{StaysHeld, Survives, Explains, storage_faults}
 use Rattle.home_daemon.specs.Output.{IsOutput}
+use Rattle.home_daemon.specs.Turns.{cut_moment}
+use Rattle.cryptohome_cli.specs.Served.{TakesLimit}
 use Rattle.cryptohome_cli.specs.declared.outcome.Ending.{Ending}
 use Rattle.cryptohome_cli.specs.declared.outcome.Ending.TheVariants.{Served, BadWords, BoardFault, Damaged, NoMemory, ClientFault, InputLimit}
 
@@ -35,19 +37,32 @@ pub record Handed (B S K C : Type 0) : Type 1 where
   pub faults_before : ℕ
   pub faults_after : ℕ
 
+-- what a desk handed out while it went from before to after
+abbrev pub handed_by : {D B S K C : Type 0} → (D → ℕ) → (D → B → Type 0) → (D → List (Client S K C) → Type 0) → (D → ℕ) → D → D → Handed B S K C
+handed_by moment board clients faults before after =
+    record {
+      moment = cut_moment (moment before);
+      board = board before;
+      client = λ client. (rest : List (Client _ _ _)) → clients after rest → clients before (client ∷ rest);
+      faults_before = faults before;
+      faults_after = faults after;
+    }
+
 module _ {B : Type 0} (disk : B → Disk) (board_faults : B → ℕ) where
   -- The book of an account that was opened at a moment: its turns are legal, and the files hold the
-  -- user after them, or its other durable part.
+  -- user after them, or its other durable part. A crash at any moment leaves the account's record as it
+  -- was or put, and leaves it put once a turn has answered ok.
   pub record History (name : List ℕ) (moment : ℕ) (before after : B) (turns : List Entry) : Type 0 where
     pub made : Bool
     pub last : User
     pub found : IfSome (disk before).now (λ now. Has now.files name made)
     pub legal : (era : Era) → IsLegal era (opened (record { made = made; next = 1 }) moment) turns last
     pub held : Becomes (disk before).now (disk after).now (λ old new. StaysHeld name last turns new)
+    pub crash : Survives name turns (disk before) (disk after)
     pub cause : Explains (board_faults before) (board_faults after) (storage_faults turns)
 
 module _ {B S K C : Type 0} (disk : B → Disk) (board_faults : B → ℕ)
-    (left : S → Option (List ℕ)) (source_faults : S → ℕ)
+    (left : S → Option (List ℕ)) (taken source_faults : S → ℕ)
     (written : K → Option (List ℕ)) (sink_faults : K → ℕ)
     (given : C → Option (List ℕ)) where
   -- The client was served until its loop ended so: its lines, its replies, and the account's book.
@@ -69,6 +84,7 @@ module _ {B S K C : Type 0} (disk : B → Disk) (board_faults : B → ℕ)
     pub moments : Gives (given before.clock) (given after.clock) (map (λ x. x.moment) exchanges)
     pub lines : Becomes (left before.source) (left after.source) (TakesLines end exchanges)
     pub replies : Becomes (written before.sink) (written after.sink) (WritesReplies end exchanges)
+    pub limit : TakesLimit end (taken before.source) (taken after.source)
     pub source_cause : HasCause (source_faults before.source) (source_faults after.source) (end ≡ ends.SourceFault)
     pub sink_cause : HasCause (sink_faults before.sink) (sink_faults after.sink) (end ≡ ends.SinkFault)
 

@@ -1,4 +1,4 @@
-//! The desk over the real system. It tells nothing but the moment, and counts each fault.
+//! The desk over the real system. It tells nothing but the moment, and counts bytes and faults.
 
 ghost use Rattle.std.specs.Prelude.{None, ⊤};
 
@@ -44,6 +44,7 @@ fn seconds(rt: &HostRuntime) -> u64 {
 #[derive(Drop)]
 pub struct Input {
     rt: HostRuntime,
+    taken: u64,
     faults: FaultCount,
 }
 
@@ -63,11 +64,16 @@ pub struct SystemClock {
 impl Source for Input {
     ghost left = { λ s. None };
 
+    ghost taken = { λ s. s.taken };
+
     ghost faults = { λ s. s.faults };
 
     fn read(&mut self, buf: &mut [u8]) -> Result<usize, Failed> {
         match self.rt.reader().read(buf) {
-            Ok(count) => Ok(count),
+            Ok(count) => {
+                self.taken = self.taken.saturating_add(count as u64);
+                Ok(count)
+            }
             Err(_) => Err(self.faults.raise()),
         }
     }
@@ -134,6 +140,7 @@ impl Desk for RealDesk {
         Ok(Client {
             source: Input {
                 rt: self.rt,
+                taken: 0,
                 faults: FaultCount::new(),
             },
             sink: Output {

@@ -7,8 +7,9 @@ ghost use Rattle.home_daemon.specs.Account.{Opens};
 ghost use Rattle.cryptohome_cli.specs.declared.outcome.Ending.{Ending as EndingSeen};
 ghost use Rattle.cryptohome_cli.specs.Words.{serve_words};
 ghost use Rattle.home_daemon.specs.Turns.{cut_moment};
-ghost use Rattle.cryptohome_cli.specs.Ending.{text_of, ending_of, IsUnasked, Shows};
-ghost use Rattle.cryptohome_cli.specs.Run.{Did, Handed, Left};
+ghost use Rattle.cryptohome_cli.specs.Ending.{EndsWell, text_of, ending_of, IsUnasked, Shows};
+ghost use Rattle.cryptohome_cli.specs.Run.{Did, Handed, Left, handed_by};
+ghost use Rattle.cryptohome_cli.specs.Quiet.{IsQuiet};
 
 use crate::outcome::{Ending, Outcome};
 use crate::serve::{Unopened, open_account, serve_account};
@@ -46,7 +47,7 @@ fn serve<D: Desk>(
     requires books_room { vec_len outcome.old.books < vec_capacity outcome.old.books }
     ensures did { (name : List ℕ) (moment : ℕ) (board : D.Board)
         → Opens D.Board.disk D.Board.faults board name moment account
-        → Did D.Board.disk D.Board.faults D.Source.left D.Source.faults D.Sink.written D.Sink.faults D.Clock.given
+        → Did D.Board.disk D.Board.faults D.Source.left D.Source.taken D.Source.faults D.Sink.written D.Sink.faults D.Clock.given
         result name
         (record {
           moment = moment;
@@ -85,15 +86,9 @@ fn open_and_serve<D: Desk>(
     requires clients_room { vec_len outcome.old.clients < vec_capacity outcome.old.clients }
     requires books { outcome.old.books.items ≡ [] }
     requires books_room { vec_len outcome.old.books < vec_capacity outcome.old.books }
-    ensures did { Did D.Board.disk D.Board.faults D.Source.left D.Source.faults D.Sink.written D.Sink.faults D.Clock.given
+    ensures did { Did D.Board.disk D.Board.faults D.Source.left D.Source.taken D.Source.faults D.Sink.written D.Sink.faults D.Clock.given
         result name.now
-        (record {
-          moment = cut_moment (D.moment desk.old);
-          board = D.board desk.old;
-          client = λ client. (rest : List (ClientSeen D.Source D.Sink D.Clock)) → D.clients desk.new rest → D.clients desk.old (client ∷ rest);
-          faults_before = D.faults desk.old;
-          faults_after = D.faults desk.new;
-        })
+        (handed_by D.moment D.board D.clients D.faults desk.old desk.new)
         (record { board = outcome.new.board; clients = outcome.new.clients.items; books = outcome.new.books.items }) }
     ensures said { outcome.new.said ≡ outcome.old.said }
     ensures short { length (text_of result) ≤ 64 }
@@ -126,16 +121,10 @@ fn do_asked<D: Desk>(
     requires books { outcome.old.books.items ≡ [] }
     requires books_room { vec_len outcome.old.books < vec_capacity outcome.old.books }
     ensures did { MatchOption (serve_words (map string_bytes words.now))
-        (IsUnasked result)
-        (λ asked. Did D.Board.disk D.Board.faults D.Source.left D.Source.faults D.Sink.written D.Sink.faults D.Clock.given
+        (result ≡ Ending.BadWords)
+        (λ asked. Did D.Board.disk D.Board.faults D.Source.left D.Source.taken D.Source.faults D.Sink.written D.Sink.faults D.Clock.given
         result asked.1
-        (record {
-          moment = cut_moment (D.moment desk.old);
-          board = D.board desk.old;
-          client = λ client. (rest : List (ClientSeen D.Source D.Sink D.Clock)) → D.clients desk.new rest → D.clients desk.old (client ∷ rest);
-          faults_before = D.faults desk.old;
-          faults_after = D.faults desk.new;
-        })
+        (handed_by D.moment D.board D.clients D.faults desk.old desk.new)
         (record { board = outcome.new.board; clients = outcome.new.clients.items; books = outcome.new.books.items })) }
     ensures said { outcome.new.said ≡ outcome.old.said }
     ensures short { length (text_of result) ≤ 64 }
@@ -153,16 +142,19 @@ pub fn run<D: Desk>(alloc: Global, words: &[String], desk: &mut D) -> Outcome<D>
         × Shows ending result.status result.said.items
         × MatchOption (serve_words (map string_bytes words.now))
         (IsUnasked ending)
-        (λ asked. Did D.Board.disk D.Board.faults D.Source.left D.Source.faults D.Sink.written D.Sink.faults D.Clock.given
+        (λ asked. Did D.Board.disk D.Board.faults D.Source.left D.Source.taken D.Source.faults D.Sink.written D.Sink.faults D.Clock.given
         ending asked.1
-        (record {
-          moment = cut_moment (D.moment desk.old);
-          board = D.board desk.old;
-          client = λ client. (rest : List (ClientSeen D.Source D.Sink D.Clock)) → D.clients desk.new rest → D.clients desk.old (client ∷ rest);
-          faults_before = D.faults desk.old;
-          faults_after = D.faults desk.new;
-        })
+        (handed_by D.moment D.board D.clients D.faults desk.old desk.new)
         (record { board = result.board; clients = result.clients.items; books = result.books.items })) }
+
+    // Where nothing outside gave a cause for another end, the client was served, or there was no memory.
+    ensures complete { MatchOption (serve_words (map string_bytes words.now))
+        (Unit {0})
+        (λ asked. IsQuiet D.Board.disk D.Board.faults D.Source.left D.Source.taken D.Source.faults D.Sink.faults
+        asked.1
+        (handed_by D.moment D.board D.clients D.faults desk.old desk.new)
+        (record { board = result.board; clients = result.clients.items; books = result.books.items })
+        → EndsWell result.status) }
 {
     let Ok(mut outcome) = Outcome::with_room(alloc) else {
         return Outcome::empty(alloc);

@@ -57,7 +57,7 @@ pub fn serve_lines<B: Board + Drop, S: Source, K: Sink, C: Clock>(
     account: Account<B>,
     client: &mut Client<S, K, C>,
 ) -> (Account<B>, LoopEnd)
-    ensures serves { ServesClient B.disk B.faults S.left S.faults K.written K.faults C.given
+    ensures serves { ServesClient B.disk B.faults S.left S.taken S.faults K.written K.faults C.given
         result.1 account result.0 client.old client.new }
 {
     let mut service = LineClient::new(alloc, account);
@@ -82,7 +82,7 @@ pub fn serve_account<D: Desk>(
 )
     ensures served { IfOk result.1 (λ served. (before : ClientSeen D.Source D.Sink D.Clock)
         × ((rest : List (ClientSeen D.Source D.Sink D.Clock)) → D.clients desk.new rest → D.clients desk.old (before ∷ rest))
-        × ServesClient D.Board.disk D.Board.faults D.Source.left D.Source.faults D.Sink.written D.Sink.faults D.Clock.given
+        × ServesClient D.Board.disk D.Board.faults D.Source.left D.Source.taken D.Source.faults D.Sink.written D.Sink.faults D.Clock.given
         served.1 account result.0 before served.0) }
     ensures unserved { OnErr result.1 (result.0 ≡ account) }
     ensures fault { result.1 ≡ Err DeskFault.Failed → Rose (D.faults desk.old) (D.faults desk.new) }

@@ -11,7 +11,7 @@ returns-in-Ok-clause-did g c =
     let did = c.serve.ensures.did c.args.name.now c.min-moment.result opened.0 opened.2 in
     let moment : c.min-moment.result ≡ cut_moment (g.D.Desk.moment c.args.desk.now) =
     grind (arith, common_steps, c.min-moment.ensures, c.start_moment.ensures.moment) in
-    did_from _ _ _ _ _ _ _ _ _
+    did_from _ _ _ _ _ _ _ _ _ _
     (record {
       moment = moment;
       board = λ board same. c.start_moment.ensures.board board

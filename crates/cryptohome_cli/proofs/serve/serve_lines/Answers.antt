@@ -1,6 +1,7 @@
 use Rattle.std.proofs.Common.{◌≡◌, [], sym, subst}
 use Rattle.home_daemon.specs.declared.account.Account.{Account}
 use Rattle.home_daemon.specs.Answered.{Answered, account_of}
+use Rattle.board_model.proofs.Effects.{unchanged_none}
 use Rattle.home_daemon.proofs.Outputs.{answered_none}
 use Rattle.cryptohome_cli.proofs.serve.serve_lines.Goals as goal
 
@@ -12,7 +13,8 @@ returns g c =
     let end = account_of c.serve_client-end.new.service in
     let disk = g.B.Board.disk in
     let faults = g.B.Board.faults in
-    let all = served.1.answered start [] (answered_none disk faults (account_of start)) in
+    let all = served.1.answered start [] (answered_none disk faults (account_of start)
+    (unchanged_none (disk (account_of start).board) (g.met.B.Board.only_now (account_of start).board))) in
     let from_account = subst (λ (first : Account _). Answered disk faults first end served.0) c.new-service.ensures.account all in
     record {
       serves = record {
@@ -22,6 +24,7 @@ returns g c =
         moments = served.1.moments;
         lines = served.1.lines;
         replies = served.1.written;
+        limit = c.serve_client-end.ensures.input_limit;
         source_cause = c.serve_client-end.ensures.source_fault;
         sink_cause = c.serve_client-end.ensures.sink_fault;
       };
