@@ -1,8 +1,6 @@
 -- The counter blocks of a text, and opening what was sealed.
-use Rattle.std.specs.Prelude.{Result, Ok, Err, IsOk, OnOk}
 use Rattle.std.proofs.Common.{◌≡◌, ℕ, List, [], ◌∷◌, ◌++◌, length, refl}
 use Rattle.std.proofs.lemmas.List.{take_at, drop_at}
-use Rattle.std.proofs.lemmas.Bool.{false≢true}
 use Rattle.aes_core.specs.Counter.{inc32}
 use Rattle.aes_core.proofs.StreamLemmas.{gctr-gctr}
 use Rattle.gcm_seal.specs.Gcm.{first_block, encrypted, decrypted}
@@ -19,8 +17,3 @@ pub decrypted-encrypted : (nk nr : ℕ) (key iv text : List ℕ)
     → decrypted nk nr key iv (encrypted nk nr key iv text) ≡ text
 unfolding decrypted encrypted
 decrypted-encrypted nk nr key iv text = gctr-gctr nk nr key (inc32 (first_block iv)) text
-
--- a fact that holds on success, after a success
-pub at_ok : {T E P : Type 0} (r : Result T E) → IsOk r → OnOk r P → P
-at_ok (Ok x) done fact = fact
-at_ok (Err e) done fact = absurd (false≢true done)

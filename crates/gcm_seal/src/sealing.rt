@@ -1,6 +1,6 @@
 //! Sealing and opening under a key.
 
-ghost use Rattle.std.specs.Prelude.{◌≡◌, ◌-◌, ◌*◌, ◌^◌, ◌<◌, ◌↔◌, length, IsOk, OnOk, OnErr};
+ghost use Rattle.std.specs.Prelude.{◌≡◌, ◌-◌, ◌*◌, ◌^◌, ◌<◌, ◌↔◌, length, IsOk, IfOk, OnOk, OnErr};
 ghost use Rattle.gcm_seal.specs.Gcm.{encrypted, decrypted, tag_of};
 ghost use Rattle.gcm_seal.specs.Sizes.{words_of, rounds_of};
 
@@ -70,19 +70,25 @@ pub fn tag_with(size: KeySize, key: &[u8], iv: &[u8; 12], aad: &[u8], text: &mut
     }
 }
 
-/// Seals a text and opens it again: a check of both that leaves the text as it was. What was sealed
-/// opens, and gives the text.
+/// Seals a text and opens it again: a check of both that leaves the text as it was, and gives the tag. What
+/// was sealed opens, and gives the text.
 pub fn seal_and_open(
     key: &[u8; 32],
     iv: &[u8; 12],
     aad: &[u8],
     buf: &mut [u8],
-) -> Result<(), BadTag>
+) -> Result<[u8; 16], BadTag>
     requires aad { length aad.now < 2 ^ 61 }
     requires text { length buf.old < 2 ^ 36 - 32 }
     ensures opens { IsOk result }
+    ensures tag { IfOk result (λ tag. tag
+        ≡ tag_of 8 14 key.now iv.now aad.now (encrypted 8 14 key.now iv.now buf.old)) }
     ensures same { buf.new ≡ buf.old }
+
+    // The law itself: a ciphertext's text is the one that was encrypted.
+    ensures law { decrypted 8 14 key.now iv.now (encrypted 8 14 key.now iv.now buf.old) ≡ buf.old }
 {
     let tag = seal_in_place(key, iv, aad, buf);
-    open_in_place(key, iv, aad, buf, &tag)
+    open_in_place(key, iv, aad, buf, &tag)?;
+    Ok(tag)
 }
