@@ -7,7 +7,7 @@ use Rattle.std.proofs.lemmas.List.Folds.{find-append}
 use Rattle.pw_types.specs.declared.stamp.Stamp.{Stamp}
 use Rattle.pw_types.specs.declared.delay.Readiness.TheVariants.{Ready, Delayed, Locked}
 use Rattle.pw_types.specs.Schedule.{locked, pair_at, IsSchedule, limit_of}
-use Rattle.pw_types.specs.Delay.{deciding, moment_after, readiness_under, readiness, IsLastReached, NoneReached, NoSooner}
+use Rattle.pw_types.specs.Delay.{deciding, moment_after, readiness_under, readiness, waiting_until, IsLastReached, NoneReached, NoSooner}
 use Rattle.pw_types.proofs.ScheduleLemmas.{seconds_no_less, seconds_at_most_locked}
 
 -- ---- the deciding pair
@@ -155,3 +155,30 @@ below_limit pairs wrong last now start s open_still =
       | inl l ↦ l
       | inr l ↦ absurd (open_still ((limit_is_locked pairs wrong last now start s).1 l))
     ]
+
+-- a schedule that locks stays locked
+pub lock_stays : (pairs : List (ℕ × ℕ)) (wrong more : ℕ) (last now later_last later : Stamp) (start later_start : ℕ) → IsSchedule pairs → wrong ≤ more
+    → readiness pairs wrong last now start ≡ Locked → readiness pairs more later_last later later_start ≡ Locked
+lock_stays pairs wrong more last now later_last later start later_start s h locks =
+    let reached = (limit_is_locked pairs wrong last now start s).0 locks in
+    (limit_is_locked pairs more later_last later later_start s).1 (omega arith)
+
+-- ---- how a wait ends
+
+-- a wait that is told is the wait of the pair, which doesn't lock
+told_wait : (locks early : Bool) (until told : ℕ) → cond locks Locked (cond early (Delayed until) Ready) ≡ Delayed told → (locks ≡ false) × (until ≡ told)
+told_wait true early until told e = absurd (cc)
+told_wait false true until told e = (refl, cc)
+told_wait false false until told e = absurd (cc)
+
+wait_of : (o : Option (ℕ × ℕ)) (last now later : Stamp) (start until : ℕ) → readiness_under o last now start ≡ Delayed until → later.boot ≡ now.boot
+    → readiness_under o last later start ≡ waiting_until until later
+wait_of None last now later start until e same = absurd (cc)
+wait_of (Some p) last now later start until e same =
+    let told = told_wait (eqb p.1 locked) (ltb now.at (moment_after p.1 last now start)) (moment_after p.1 last now start) until e in
+    rw (told.0, same, told.1) refl
+
+pub wait_ends : (pairs : List (ℕ × ℕ)) (wrong : ℕ) (last now later : Stamp) (start until : ℕ) → readiness pairs wrong last now start ≡ Delayed until → later.boot ≡ now.boot
+    → readiness pairs wrong last later start ≡ waiting_until until later
+unfolding readiness
+wait_ends pairs wrong last now later start until e same = wait_of (deciding pairs wrong) last now later start until e same

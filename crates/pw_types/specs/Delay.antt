@@ -37,6 +37,10 @@ pub record IsLastReached (pairs : List (ℕ × ℕ)) (wrong k : ℕ) : Type 0 wh
 abbrev pub NoneReached : List (ℕ × ℕ) → ℕ → Type 0
 NoneReached pairs wrong = (k : ℕ) → k < length pairs → wrong < (pair_at pairs k).0
 
+-- the answer at a moment, where a try waits until another
+abbrev pub waiting_until : ℕ → Stamp → Readiness
+waiting_until until now = if nat_lt now.at until then Delayed until else Ready
+
 -- the second answer lets no try come sooner than the first
 abbrev pub NoSooner : Readiness → Readiness → Type 0
 NoSooner Ready _ = Unit {0}

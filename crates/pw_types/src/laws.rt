@@ -2,9 +2,9 @@
 
 ghost use Rattle.std.specs.Prelude.{◌≡◌, ℕ, ◌≤◌, ◌↔◌, List, MatchOption};
 ghost use Rattle.pw_types.specs.Schedule.{IsSchedule, limit_of, pair_at};
-ghost use Rattle.pw_types.specs.Delay.{readiness, deciding, IsLastReached, NoneReached, NoSooner};
+ghost use Rattle.pw_types.specs.Delay.{readiness, deciding, waiting_until, IsLastReached, NoneReached, NoSooner};
 ghost use Rattle.pw_types.specs.declared.stamp.Stamp.{Stamp};
-ghost use Rattle.pw_types.specs.declared.delay.Readiness.TheVariants.{Locked};
+ghost use Rattle.pw_types.specs.declared.delay.Readiness.TheVariants.{Delayed, Locked};
 
 /// The deciding pair is the last one that the count of wrong tries has reached.
 pub fn deciding_pair()
@@ -28,4 +28,21 @@ pub fn limit_locks()
     ensures { (schedule : List (ℕ × ℕ)) (wrong : ℕ) (last now : Stamp) (start : ℕ)
         → IsSchedule schedule
         → (readiness schedule wrong last now start ≡ Locked) ↔ (limit_of schedule ≤ wrong) }
+{}
+
+/// A schedule that locks stays locked: no later count of wrong tries, moment or boot unlocks it.
+pub fn locked_stays_locked()
+    ensures { (schedule : List (ℕ × ℕ)) (wrong more : ℕ) (last now later_last later : Stamp) (start later_start : ℕ)
+        → IsSchedule schedule
+        → wrong ≤ more
+        → readiness schedule wrong last now start ≡ Locked
+        → readiness schedule more later_last later later_start ≡ Locked }
+{}
+
+/// A try that waits until a moment waits at each moment of the same boot before it, and is ready from it on.
+pub fn wait_ends_at_its_moment()
+    ensures { (schedule : List (ℕ × ℕ)) (wrong : ℕ) (last now later : Stamp) (start until : ℕ)
+        → readiness schedule wrong last now start ≡ Delayed until
+        → later.boot ≡ now.boot
+        → readiness schedule wrong last later start ≡ waiting_until until later }
 {}

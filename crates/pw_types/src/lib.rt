@@ -7,7 +7,10 @@ mod schedule;
 mod stamp;
 
 pub use delay::{Readiness, ready};
-pub use laws::{deciding_pair, limit_locks, more_tries_wait_longer};
+pub use laws::{
+    deciding_pair, limit_locks, locked_stays_locked, more_tries_wait_longer,
+    wait_ends_at_its_moment,
+};
 pub use schedule::{LOCKED, MOST_ATTEMPTS, MOST_PAIRS, Schedule, ScheduleFault};
 pub use stamp::Stamp;
 

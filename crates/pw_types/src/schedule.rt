@@ -1,6 +1,6 @@
 //! Delay schedules: after how many wrong tries the next one waits how long.
 
-ghost use Rattle.std.specs.Prelude.{◌≡◌, ◌+◌, ◌<◌, ◌↔◌, [], ◌∷◌, length, IsOk, IfOk, IfErr};
+ghost use Rattle.std.specs.Prelude.{◌≡◌, ℕ, ◌+◌, ◌<◌, ◌↔◌, [], ◌∷◌, length, IsOk, IfOk, IfErr};
 ghost use Rattle.pw_types.specs.Schedule.{IsSchedule, IsFaultOf, keeps_rules, limit_of};
 ghost use Rattle.pw_types.specs.Delay.{deciding};
 
@@ -65,6 +65,11 @@ impl Schedule {
         ensures found { IfOk result (λ schedule. schedule ≡ pairs.now) }
         ensures succeeds { IsOk result ↔ IsSchedule pairs.now }
         ensures bad_schedule { IfErr result (IsFaultOf pairs.now) }
+
+        // The fault that the pairs have is the one that is told.
+        ensures only { (place : ℕ)
+            → IsFaultOf pairs.now (ScheduleFault.BadSchedule place)
+            → result ≡ Err (ScheduleFault.BadSchedule place) }
     {
         if pairs.is_empty() || pairs.len() > MOST_PAIRS {
             return Err(ScheduleFault::BadSchedule(0));

@@ -52,9 +52,10 @@ fn under_one_pair_the_third_wrong_try_locks(rt: HostRuntime) {
 
 // Wrong tries, whether the boot began after the last of them, the moment of the next, and the answer. The
 // last wrong try was at moment 1000, and a later boot began at moment 2000.
-const EDGES: [(u32, bool, u64, Readiness); 17] = [
+const EDGES: [(u32, bool, u64, Readiness); 26] = [
     (0, false, 1_000, Readiness::Ready),
     (4, false, 1_000, Readiness::Ready),
+    (5, false, 1_000, Readiness::Delayed(1_030)),
     (5, false, 1_029, Readiness::Delayed(1_030)),
     (5, false, 1_030, Readiness::Ready),
     (6, false, 1_059, Readiness::Delayed(1_060)),
@@ -66,9 +67,17 @@ const EDGES: [(u32, bool, u64, Readiness); 17] = [
     (9, false, 4_599, Readiness::Delayed(4_600)),
     (9, false, 4_600, Readiness::Ready),
     (10, false, 1_000_000, Readiness::Locked),
+    (11, false, 1_000_000, Readiness::Locked),
+    (4, true, 2_000, Readiness::Ready),
     (5, true, 2_029, Readiness::Delayed(2_030)),
     (5, true, 2_030, Readiness::Ready),
+    (6, true, 2_059, Readiness::Delayed(2_060)),
+    (6, true, 2_060, Readiness::Ready),
+    (7, true, 2_299, Readiness::Delayed(2_300)),
+    (7, true, 2_300, Readiness::Ready),
+    (8, true, 2_900, Readiness::Ready),
     (9, true, 5_599, Readiness::Delayed(5_600)),
+    (9, true, 5_600, Readiness::Ready),
     (10, true, 1_000_000, Readiness::Locked),
 ];
 
