@@ -1,5 +1,5 @@
 -- What a record that is read has.
-use Rattle.std.proofs.Common.{◌≡◌, ℕ, ◌+◌, ◌<◌, ◌≤◌, Bool, true, false, cond, eqb, ltb, leb, ◌&&◌, ◌||◌, ◌⊎◌, inl, inr, Option, Some, None, Result, Ok, Err, IsOk, IfOk, IfErr, List, length, take, drop, replicate, refl, sym, ◌∙◌, ap, subst, arith}
+use Rattle.std.proofs.Common.{◌≡◌, ℕ, ◌+◌, ◌<◌, ◌≤◌, Bool, true, false, cond, eqb, ltb, leb, ◌&&◌, ◌||◌, ◌⊎◌, inl, inr, Option, Some, None, Result, Ok, Err, IsOk, IfOk, IfErr, List, length, take, drop, refl, sym, ◌∙◌, ap, subst, arith}
 use Rattle.std.specs.Prelude.{bytes_eq, slice_index, ◌*◌, ◌-◌, ◌^◌}
 use Rattle.std.specs.List.{list_all}
 use Rattle.std.proofs.lemmas.Bool.{eqb-true, and_parts, and_left, and_right, or_from, ne_eqb, lt-leb, le-ltb}
@@ -11,23 +11,24 @@ use Rattle.pw_leaf.specs.declared.keys.ChipKeys.{ChipKeys}
 use Rattle.pw_leaf.specs.declared.leaf.Leaf.{Leaf}
 use Rattle.pw_leaf.specs.declared.leaf.PublicLeaf.{PublicLeaf}
 use Rattle.pw_leaf.specs.declared.fault.LeafFault.{LeafFault}
-use Rattle.pw_leaf.specs.declared.fault.LeafFault.TheVariants.{BadLength, BadVersion, BadShape, BadMac}
+use Rattle.pw_leaf.specs.declared.fault.LeafFault.TheVariants.{BadLength, BadVersion, BadMac}
 use Rattle.pw_leaf.specs.Contents.{Contents, contents_of, leaf_of}
 use Rattle.pw_leaf.specs.LeafBytes.{leaf_bytes}
 use Rattle.pw_leaf.specs.Reading.{label_in, count_in, pairs_in, unused_in, wrong_in, last_in, iv_in, mac_of, text_of, shown_in, contents_in, has_schedule, shape_fault, shaped, look_at, signed_by, check_at, with_mac, leaf_at}
-use Rattle.pw_leaf.proofs.Cases.{on_cond, on_result}
+use Rattle.pw_leaf.proofs.Cases.{on_cond}
 
 -- ---- the public part
 
--- the public part that is read, of 296 bytes in the right shape
+-- the public part that is read, of 296 bytes of version 1 in the right shape
 pub record IsShown (bytes : List ℕ) (shown : PublicLeaf) : Type 0 where
   pub long : length bytes ≡ 296
+  pub version : slice_index bytes 0 ≡ 1
   pub same : shown ≡ shown_in bytes
   pub right : shape_fault bytes ≡ None
 
-shown_shape : (bytes : List ℕ) (shown : PublicLeaf) (o : Option ℕ) → length bytes ≡ 296 → shape_fault bytes ≡ o → shaped bytes o ≡ Ok shown → IsShown bytes shown
-shown_shape bytes shown (Some place) n f e = cc
-shown_shape bytes shown None n f e = let same : shown_in bytes ≡ shown = cc e in record { long = n; same = sym same; right = f }
+shown_shape : (bytes : List ℕ) (shown : PublicLeaf) (o : Option ℕ) → length bytes ≡ 296 → slice_index bytes 0 ≡ 1 → shape_fault bytes ≡ o → shaped bytes o ≡ Ok shown → IsShown bytes shown
+shown_shape bytes shown (Some place) n v f e = cc
+shown_shape bytes shown None n v f e = let same : shown_in bytes ≡ shown = cc e in record { long = n; version = v; same = sym same; right = f }
 
 pub look_at-is : (bytes : List ℕ) (shown : PublicLeaf) → look_at bytes ≡ Ok shown → IsShown bytes shown
 unfolding look_at
@@ -36,7 +37,7 @@ look_at-is bytes shown e =
     (cond (eqb (slice_index bytes 0) 1) (shaped bytes (shape_fault bytes)) (Err (BadVersion (slice_index bytes 0)))) (Err (BadLength (length bytes)))
     (λ t q. on_cond (λ r. r ≡ Ok shown → IsShown bytes shown) (eqb (slice_index bytes 0) 1)
     (shaped bytes (shape_fault bytes)) (Err (BadVersion (slice_index bytes 0)))
-    (λ t1 q1. shown_shape bytes shown (shape_fault bytes) (eqb-true (length bytes) 296 t) refl q1) (λ _ q1. cc q1) q)
+    (λ t1 q1. shown_shape bytes shown (shape_fault bytes) (eqb-true (length bytes) 296 t) (eqb-true (slice_index bytes 0) 1 t1) refl q1) (λ _ q1. cc q1) q)
     (λ _ q. cc q) e
 
 -- the right shape has a schedule
@@ -85,6 +86,7 @@ shaped-none bytes shown f e = ap (λ (s : PublicLeaf). Ok s) e ∙ sym (ap (shap
 -- the contents that are read, with a right MAC
 pub record IsChecked (keys : ChipKeys) (bytes : List ℕ) (x : Contents) : Type 0 where
   pub long : length bytes ≡ 296
+  pub version : slice_index bytes 0 ≡ 1
   pub same : x ≡ contents_in keys bytes
   pub right : shape_fault bytes ≡ None
   pub mac : mac_of bytes ≡ hmac keys.mac (text_of bytes)
@@ -94,7 +96,7 @@ checked_shown keys bytes x (Err fault) l e = cc e
 checked_shown keys bytes x (Ok shown) l e =
     let is = look_at-is bytes shown l in
     on_cond (λ r. r ≡ Ok x → IsChecked keys bytes x) (bytes_eq (mac_of bytes) (hmac keys.mac (text_of bytes))) (Ok (contents_in keys bytes)) (Err BadMac)
-    (λ t q. let same : contents_in keys bytes ≡ x = cc q in record { long = is.long; same = sym same; right = is.right; mac = (bytes_eq-Decides (mac_of bytes) (hmac keys.mac (text_of bytes))).0 t })
+    (λ t q. let same : contents_in keys bytes ≡ x = cc q in record { long = is.long; version = is.version; same = sym same; right = is.right; mac = (bytes_eq-Decides (mac_of bytes) (hmac keys.mac (text_of bytes))).0 t })
     (λ _ q. cc q) e
 
 pub check_at-is : (keys : ChipKeys) (bytes : List ℕ) (x : Contents) → check_at keys bytes ≡ Ok x → IsChecked keys bytes x

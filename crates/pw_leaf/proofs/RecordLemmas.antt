@@ -1,6 +1,6 @@
 -- A record that is written is read as what was written.
-use Rattle.std.proofs.Common.{◌≡◌, ℕ, zero, suc, ◌+◌, ◌-◌, ◌*◌, ◌<◌, ◌≤◌, ◌^◌, ◌⊎◌, inl, inr, Bool, true, false, cond, eqb, ltb, leb, ◌&&◌, Option, Some, None, Result, Ok, Err, List, [], ◌∷◌, ◌++◌, length, take, drop, replicate, get_or, get_or-drop, refl, sym, ◌∙◌, ap, arith}
-use Rattle.std.specs.Prelude.{bytes_eq, slice_index}
+use Rattle.std.proofs.Common.{◌≡◌, ℕ, zero, suc, ◌+◌, ◌-◌, ◌*◌, ◌<◌, ◌≤◌, ◌^◌, ◌⊎◌, inl, inr, true, cond, eqb, None, Ok, Err, List, [], ◌∷◌, ◌++◌, length, take, drop, replicate, get_or-drop, refl, sym, ◌∙◌, ap, arith}
+use Rattle.std.specs.Prelude.{slice_index}
 use Rattle.std.specs.List.{list_all}
 use Rattle.std.specs.Int.{w16, w32, w64, to_be_bytes, from_be_bytes}
 use Rattle.std.proofs.lemmas.Bool.{cases_eq, and_from}
@@ -11,14 +11,13 @@ use Rattle.aes_core.specs.Counter.{gctr}
 use Rattle.aes_core.proofs.StreamLemmas.{length-gctr, gctr-gctr}
 use Rattle.hmac_sha.specs.Hmac.{hmac}
 use Rattle.hmac_sha.proofs.BlockLemmas.{length-hmac}
-use Rattle.pw_types.specs.Schedule.{pair_at, IsSchedule, limit_of, is_schedule}
+use Rattle.pw_types.specs.Schedule.{pair_at, IsSchedule, is_schedule}
 use Rattle.pw_types.proofs.ScheduleLemmas.{is_schedule-Decides, seconds_at_most_locked}
 use Rattle.pw_leaf.specs.declared.keys.ChipKeys.{ChipKeys}
-use Rattle.pw_leaf.specs.declared.fault.LeafFault.{LeafFault}
 use Rattle.pw_leaf.specs.declared.fault.LeafFault.TheVariants.{BadMac}
 use Rattle.pw_leaf.specs.Contents.{Contents, IsContents}
 use Rattle.pw_leaf.specs.LeafBytes.{pairs_bytes, pairs_field, open_part, secret_part, leaf_text, leaf_mac, leaf_bytes}
-use Rattle.pw_leaf.specs.Reading.{pairs_of, label_in, count_in, pairs_in, unused_in, wrong_in, last_in, iv_in, secrets_in, mac_of, text_of, shown_in, contents_in, has_schedule, shape_fault, shaped, look_at, signed_by, check_at}
+use Rattle.pw_leaf.specs.Reading.{pairs_of, count_in, pairs_in, unused_in, iv_in, secrets_in, mac_of, text_of, shown_in, contents_in, has_schedule, shape_fault, look_at, signed_by, check_at}
 use Rattle.pw_leaf.proofs.FieldLemmas.{length-pairs_bytes}
 use Rattle.pw_leaf.proofs.ReadLemmas.{shape_fault-none}
 

@@ -13,7 +13,10 @@ mod write;
 pub use change::{bump, clear};
 pub use fault::LeafFault;
 pub use keys::{ChipKeys, NewLeafSecrets};
-pub use laws::written_record_is_read;
+pub use laws::{
+    accepted_record_is_written, changed_count_changes_nothing_else, changed_record_is_read,
+    written_record_is_read,
+};
 pub use leaf::{LEAF_BYTES, Leaf, PublicLeaf};
 pub use read::{check, look};
 pub use write::make;

@@ -1,7 +1,6 @@
-use Rattle.std.proofs.Common.{rules, ◌≡◌, ◌<◌, ◌≤◌, ◌+◌, ◌^◌, length, take, refl, sym, ◌∙◌, ap, arith}
+use Rattle.std.proofs.Common.{rules, ◌<◌, ◌+◌, ◌^◌, sym, ◌∙◌, ap, arith}
 use Rattle.pw_leaf.specs.Contents.{bumped, contents_of}
 use Rattle.pw_leaf.specs.LeafBytes.{leaf_bytes}
-use Rattle.pw_leaf.specs.Reading.{leaf_at, check_at}
 use Rattle.pw_leaf.proofs.ReadLemmas.{accepted_is_read, changed_bytes, count_fits}
 use Rattle.pw_leaf.proofs.change.bump.Goals as goal
 

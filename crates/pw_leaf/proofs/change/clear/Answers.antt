@@ -1,7 +1,6 @@
-use Rattle.std.proofs.Common.{◌≡◌, refl, sym, ◌∙◌, ap}
+use Rattle.std.proofs.Common.{sym, ◌∙◌, ap}
 use Rattle.pw_leaf.specs.Contents.{cleared, contents_of}
 use Rattle.pw_leaf.specs.LeafBytes.{leaf_bytes}
-use Rattle.pw_leaf.specs.Reading.{leaf_at, check_at}
 use Rattle.pw_leaf.proofs.ReadLemmas.{accepted_is_read, changed_bytes}
 use Rattle.pw_leaf.proofs.change.clear.Goals as goal
 

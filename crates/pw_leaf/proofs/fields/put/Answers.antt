@@ -1,5 +1,5 @@
-use Rattle.std.proofs.Common.{rules, ◌≡◌, ◌-◌, ◌+◌, length, arith}
-use Rattle.std.proofs.lemmas.Slice.{overwrites, drop-put_mid}
+use Rattle.std.proofs.Common.{◌≡◌, ◌-◌, ◌+◌, length, arith}
+use Rattle.std.proofs.lemmas.Slice.{drop-put_mid}
 use Rattle.pw_leaf.proofs.fields.put.Goals as goal
 
 -- the bytes behind the field stay

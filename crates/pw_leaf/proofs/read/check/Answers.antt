@@ -1,4 +1,4 @@
-use Rattle.std.proofs.Common.{◌≡◌, ◌≤◌, ◌+◌, Ok, Err, length, take, drop, refl, sym, ◌∙◌, ap, arith}
+use Rattle.std.proofs.Common.{◌≡◌, Ok, Err, length, take, drop, sym, ◌∙◌, ap, arith}
 use Rattle.std.specs.Prelude.{bytes_eq}
 use Rattle.std.proofs.lemmas.Bool.{not-true, not-false}
 use Rattle.std.proofs.lemmas.Result.{err_from_is_err_and}
@@ -8,8 +8,8 @@ use Rattle.pw_leaf.specs.declared.leaf.Leaf.{Leaf}
 use Rattle.pw_leaf.specs.declared.leaf.PublicLeaf.{PublicLeaf}
 use Rattle.pw_leaf.specs.declared.fault.LeafFault.TheVariants.{BadMac}
 use Rattle.pw_leaf.specs.Contents.{leaf_of}
-use Rattle.pw_leaf.specs.Reading.{leaf_at, look_at, mac_of, text_of, contents_in, secrets_in}
-use Rattle.pw_leaf.proofs.ReadLemmas.{IsShown, look_at-is, leaf_at-fault, leaf_at-unsigned, leaf_at-signed, told}
+use Rattle.pw_leaf.specs.Reading.{look_at, mac_of, text_of, contents_in, secrets_in}
+use Rattle.pw_leaf.proofs.ReadLemmas.{look_at-is, leaf_at-fault, leaf_at-unsigned, leaf_at-signed, told}
 use Rattle.pw_leaf.proofs.read.check.Goals as goal
 
 pub returns-in_err-shown : goal.returns-in_err-shown

@@ -1,11 +1,10 @@
-use Rattle.std.proofs.Common.{◌≡◌, ◌&&◌, ◌+◌, ◌*◌, ◌-◌, Bool, true, false, eqb, take, drop, refl, sym, ◌∙◌, ap}
+use Rattle.std.proofs.Common.{◌≡◌, ◌&&◌, Bool, true, false, take, drop, refl, sym, ◌∙◌, ap}
 use Rattle.std.specs.Prelude.{is_ok}
-use Rattle.std.specs.List.{list_all}
 use Rattle.std.proofs.lemmas.Bool.{and_right}
 use Rattle.std.proofs.lemmas.Bool.Decides.{same_from_decides}
 use Rattle.pw_types.specs.Schedule.{is_schedule}
 use Rattle.pw_types.proofs.ScheduleLemmas.{is_schedule-Decides}
-use Rattle.pw_leaf.specs.Reading.{has_schedule, pairs_in, pairs_of, unused_in, count_in}
+use Rattle.pw_leaf.specs.Reading.{pairs_in, pairs_of}
 use Rattle.pw_leaf.proofs.ReadLemmas.{has_schedule-by}
 use Rattle.pw_leaf.proofs.read.schedule_in.Goals as goal
 

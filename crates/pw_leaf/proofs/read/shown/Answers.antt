@@ -1,6 +1,6 @@
-use Rattle.std.proofs.Common.{◌≡◌, ◌<◌, ◌≤◌, length, take, drop, refl, sym, ◌∙◌, ap, arith}
+use Rattle.std.proofs.Common.{◌≡◌, ◌<◌, ◌≤◌, length, drop, refl, sym, ◌∙◌, ap, arith}
 use Rattle.std.proofs.lemmas.List.{take_all, length-drop}
-use Rattle.pw_leaf.specs.Reading.{label_in, count_in, pairs_in, mac_of}
+use Rattle.pw_leaf.specs.Reading.{label_in, pairs_in, mac_of}
 use Rattle.pw_types.specs.Schedule.{limit_of}
 use Rattle.pw_leaf.proofs.ReadLemmas.{shape_fault-none, shaped-none}
 use Rattle.pw_leaf.proofs.read.shown.Goals as goal

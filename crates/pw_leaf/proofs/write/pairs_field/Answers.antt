@@ -1,4 +1,4 @@
-use Rattle.std.proofs.Common.{◌≡◌, ◌<◌, ◌≤◌, ◌+◌, ℕ, ◌*◌, length, get_or, refl, sym, ◌∙◌, ap, arith}
+use Rattle.std.proofs.Common.{◌≤◌, ◌+◌, ◌*◌, length, get_or, refl, ◌∙◌, ap, arith}
 use Rattle.std.specs.Int.{w32, to_be_bytes}
 use Rattle.pw_leaf.specs.LeafBytes.{pairs_field}
 use Rattle.pw_leaf.proofs.FieldLemmas.{written_none, written_more, written_all, put_next, put_rest}
