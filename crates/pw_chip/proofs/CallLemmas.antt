@@ -1,11 +1,11 @@
 -- Each call keeps what holds, and its reply is lawful.
 use Rattle.std.proofs.Common.{◌≡◌, ℕ, ◌<◌, ◌^◌, inl, inr, true, false, eqb, ltb, ◌&&◌, Option, Some, None, Ok, List, length, refl, sym, ◌∙◌, ap, subst, arith}
 use Rattle.std.specs.Prelude.{bytes_eq, option_map}
-use Rattle.std.proofs.lemmas.Bool.{eqb-true, ltb-true, ne_eqb, false≢true}
+use Rattle.std.proofs.lemmas.Bool.{cases_eq, eqb-true, ltb-true, ne_eqb, false≢true}
 use Rattle.std.proofs.lemmas.Slice.Eq.{bytes_eq-Decides}
 use Rattle.pw_path.specs.Tree.{root, aux_of, AgreeBut, no_hash}
 use Rattle.pw_path.specs.Path.{root_of, OnPath, OnTree, IsAux, HasNoCollision}
-use Rattle.pw_path.proofs.TreeLemmas.{true_value, root_of_changed, set_value_other, set_value_same}
+use Rattle.pw_path.proofs.TreeLemmas.{true_value, aux_of_same, root_of_changed, set_value_other, set_value_same}
 use Rattle.pw_types.specs.Schedule.{limit_of}
 use Rattle.pw_types.specs.Delay.{readiness}
 use Rattle.pw_types.specs.declared.stamp.Stamp.{Stamp}
@@ -23,11 +23,10 @@ use Rattle.pw_chip.specs.declared.reply.Reply.{Reply}
 use Rattle.pw_chip.specs.declared.reply.Reply.TheVariants.{Done, Inserted, Released, Cleared, Wrong, Delayed, Locked, ResetWrong, RootUnknown, LabelUsed, LabelEmpty}
 use Rattle.pw_chip.specs.State.{ChipState, empty_root}
 use Rattle.pw_chip.specs.Calls.{CallData, ResetTree, Insert, Remove, Try, Reset, GetLog, Replay}
-use Rattle.pw_chip.specs.declared.open.Refusal.{Refusal}
 use Rattle.pw_chip.specs.declared.open.Refusal.TheVariants.{NoLabel, NoLeaf, NoPath}
 use Rattle.pw_chip.specs.Step.{refused, logged, is_replayed, redone_by, is_full, opened, tried, tried_when, try_opened, after_try, reset_at, reset_opened, after_reset, replay_opened, leaf_entry, reset_tree_step, insert_step, remove_step, try_step, reset_step, replay_step, step}
 use Rattle.pw_chip.specs.Ledger.{with_leaf, leaves_after}
-use Rattle.pw_chip.specs.Law.{value_of, values, InLeaves, OnPresented, InPresented, IsCall, by, IsLawful}
+use Rattle.pw_chip.specs.Law.{value_of, values, InLeaves, OnPresented, InPresented, IsCall, by, IsOfOlderLeaf, IsOfUsed, IsLawful}
 use Rattle.pw_chip.proofs.GenuineLemmas.{Covered, values_hashes, Genuine, genuine, none_of}
 use Rattle.pw_chip.proofs.KeptLemmas.{Holds, Redone, kept_logged, logged_keys, covered_with}
 
@@ -193,7 +192,7 @@ module _ (N M : List ℕ → Type 0) (apart : HasNoCollision N) (b s : ℕ) wher
       changed w t label (option_map f (t label)) aux e h g.small g.true_aux (er ∙ ap (λ o. root_of label (value_of w.keys o) aux) (sym there))
       (λ y q. let same : f x ≡ y = cc (sym there ∙ q) in subst (λ z. IsContents z × (z.label ≡ label)) same (good, l ∙ Covered.label (Holds.covered h) label x g.stands))
       (λ m q. subst (λ i. Redone e i t (with_leaf t label (option_map f (t label)))) (of_e m q)
-      (record { leaf = x; was = g.stands; is = set_value_same t label (option_map f (t label)) ∙ there ∙ ap Some fx; room = room }))
+      (record { leaf = x; was = g.stands; others = λ i ne. set_value_other t label (option_map f (t label)) i ne; is = set_value_same t label (option_map f (t label)) ∙ there ∙ ap Some fx; room = room }))
       nodes macs
 
   -- ---- try
@@ -299,14 +298,15 @@ module _ (N M : List ℕ → Type 0) (apart : HasNoCollision N) (b s : ℕ) wher
       (λ empty.
       let p = true_path w t label aux mac h (ltb-true label 16384 small) ok.0 ok.1 path ((bytes_eq-Decides (root_of label mac aux) w.log.newest.root).0 in_tree) in
       let zero_mac : mac ≡ no_hash = (bytes_eq-Decides mac no_hash).0 empty in
-      (none_of N M w.keys apart h.macs t label h.covered (sym zero_mac ∙ p.0), refl))
+      record { unused = none_of N M w.keys apart h.macs t label h.covered (sym zero_mac ∙ p.0); path = p.1; bytes = refl })
       (λ _. tt))
       (λ _. tt))
       (λ _. tt)
 
-  some_of : (keys : ChipKeys) (t : ℕ → Option Contents) (label : ℕ) (o : Option Contents) → t label ≡ o → (value_of keys o ≡ no_hash → ⊥) → (x : Contents) × (t label ≡ Some x)
-  some_of keys t label None e f = absurd (f refl)
-  some_of keys t label (Some x) e f = (x, e)
+  used_of : (keys : ChipKeys) (t : ℕ → Option Contents) (label : ℕ) (aux : List (List (List ℕ))) (mac : List ℕ) (o : Option Contents) → t label ≡ o → mac ≡ value_of keys o → (mac ≡ no_hash → ⊥)
+      → aux ≡ aux_of (values keys t) label → IsOfUsed keys t label aux mac
+  used_of keys t label aux mac None e m f p = absurd (f m)
+  used_of keys t label aux mac (Some x) e m f p = record { contents = x; stands = e; value = m; path = p }
 
   law_remove : (w : ChipState) (t : ℕ → Option Contents) (label : ℕ) (aux : List (List (List ℕ))) (mac : List ℕ) (now : ℕ)
       → Holds N M b s w t → IsCall (Remove label aux mac) → ((a : List ℕ) → OnPresented w (Remove label aux mac) a → N a)
@@ -321,7 +321,7 @@ module _ (N M : List ℕ → Type 0) (apart : HasNoCollision N) (b s : ℕ) wher
       (λ _. tt)
       (λ used.
       let p = true_path w t label aux mac h (ltb-true label 16384 small) ok.0 ok.1 path ((bytes_eq-Decides (root_of label mac aux) w.log.newest.root).0 in_tree) in
-      some_of w.keys t label (t label) refl (λ z. false≢true (sym used ∙ (bytes_eq-Decides mac no_hash).1 (p.0 ∙ z)))))
+      used_of w.keys t label aux mac (t label) refl p.0 (λ z. false≢true (sym used ∙ (bytes_eq-Decides mac no_hash).1 z)) p.1))
       (λ _. tt))
       (λ _. tt)
 
@@ -331,7 +331,7 @@ module _ (N M : List ℕ → Type 0) (apart : HasNoCollision N) (b s : ℕ) wher
   unfolding Answers step reset_tree_step insert_step remove_step try_step reset_step replay_step IsLawful IsCall OnPresented InPresented
   law_try w t label aux leaf les now h ok path ins =
       on_result (λ r. Answers w t (Try label aux leaf les) now (try_opened w label aux les now r).0) (opened w.keys w.log.newest.root label aux leaf)
-      (λ x q. let g = try_genuine w t label aux leaf x h ok path ins q in inr (x, (g.stands, (g.bytes, refl))))
+      (λ x q. let g = try_genuine w t label aux leaf x h ok path ins q in inr (record { contents = x; stands = g.stands; bytes = g.bytes; path = g.true_aux; answer = refl }))
       (λ r q. inl (by r))
 
   law_reset : (w : ChipState) (t : ℕ → Option Contents) (label : ℕ) (aux : List (List (List ℕ))) (leaf reset : List ℕ) (now : ℕ)
@@ -340,8 +340,32 @@ module _ (N M : List ℕ → Type 0) (apart : HasNoCollision N) (b s : ℕ) wher
   unfolding Answers step reset_tree_step insert_step remove_step try_step reset_step replay_step IsLawful IsCall OnPresented InPresented
   law_reset w t label aux leaf reset now h ok path ins =
       on_result (λ r. Answers w t (Reset label aux leaf reset) now (reset_opened w label aux reset now r).0) (opened w.keys w.log.newest.root label aux leaf)
-      (λ x q. let g = try_genuine w t label aux leaf x h ok path ins q in inr (x, (g.stands, (g.bytes, refl))))
+      (λ x q. let g = try_genuine w t label aux leaf x h ok path ins q in inr (record { contents = x; stands = g.stands; bytes = g.bytes; path = g.true_aux; answer = refl }))
       (λ r q. inl (by r))
+
+  -- a leaf that the newest entry changed, with the tree before it
+  older_of : (w : ChipState) (t : ℕ → Option Contents) (label : ℕ) (aux : List (List (List ℕ))) (leaf : List ℕ) (x : Contents) (before : ℕ → Option Contents) (reply : Reply)
+      → Redone w.log.newest label before t → Genuine w.keys before label aux leaf x → w.log.older.root ≡ root (values w.keys before)
+      → reply ≡ replay_opened w (Ok x) → IsOfOlderLeaf w t label aux leaf reply
+  unfolding AgreeBut
+  older_of w t label aux leaf x before reply redone g older is =
+      let same : redone.leaf ≡ x = cc (sym redone.was ∙ g.stands) in
+      let room : is_full w.log.newest.verdict x ≡ false = subst (λ z. is_full w.log.newest.verdict z ≡ false) same redone.room in
+      let each : (i : ℕ) → before i ≡ with_leaf t label (Some x) i =
+      λ i. elim (cases_eq i label) [
+        | inl e ↦ ap before e ∙ g.stands ∙ sym (rw e (set_value_same t label (Some x)))
+        | inr ne ↦ sym (redone.others i ne) ∙ sym (set_value_other t label (Some x) i ne)
+      ] in
+      let stood : before ≡ with_leaf t label (Some x) = λ i j. each j i in
+      record {
+        before = x;
+        bytes = g.bytes;
+        root = older ∙ ap (λ f. root (values w.keys f)) stood;
+        older_path = g.true_aux ∙ ap (λ f. aux_of (values w.keys f) label) stood;
+        path = g.true_aux ∙ sym (aux_of_same (values w.keys before) (values w.keys t) label (λ i ne. ap (value_of w.keys) (redone.others i ne)));
+        stands = redone.is ∙ ap (λ z. Some (redone_by w.log.newest.verdict w.log.newest.stamp z)) same;
+        answer = is ∙ rw room refl;
+      }
 
   law_replay : (w : ChipState) (t : ℕ → Option Contents) (label : ℕ) (aux : List (List (List ℕ))) (leaf : List ℕ) (now : ℕ)
       → Holds N M b s w t → IsCall (Replay label aux leaf) → ((a : List ℕ) → OnPresented w (Replay label aux leaf) a → N a) → ((a : List ℕ) → InPresented w (Replay label aux leaf) a → M a)
@@ -355,10 +379,7 @@ module _ (N M : List ℕ → Type 0) (apart : HasNoCollision N) (b s : ℕ) wher
       (λ x q.
       let past = h.past in
       let g = genuine N M w.keys apart h.macs past.before label aux leaf x w.log.older.root past.covered past.root ok path ins q in
-      let redone = past.follows label is in
-      let same : redone.leaf ≡ x = cc (sym redone.was ∙ g.stands) in
-      let room : is_full w.log.newest.verdict x ≡ false = subst (λ z. is_full w.log.newest.verdict z ≡ false) same redone.room in
-      inr (redone_by w.log.newest.verdict w.log.newest.stamp x, (redone.is ∙ ap (λ z. Some (redone_by w.log.newest.verdict w.log.newest.stamp z)) same, rw room refl)))
+      inr (older_of w t label aux leaf x past.before (replay_opened w (Ok x)) (past.follows label is) g past.root refl))
       (λ r q. inl (inl (by r))))
       (λ _. inl (inr refl)))
       (λ _. inl (inl (by NoLabel)))

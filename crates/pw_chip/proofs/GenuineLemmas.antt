@@ -18,7 +18,6 @@ use Rattle.pw_leaf.specs.Reading.{check_at, mac_of, text_of}
 use Rattle.pw_leaf.proofs.Cases.{on_cond}
 use Rattle.pw_leaf.proofs.ReadLemmas.{IsChecked, check_at-is}
 use Rattle.pw_leaf.proofs.RecordLemmas.{length-leaf_mac, check_at-leaf_bytes}
-use Rattle.pw_chip.specs.declared.open.Refusal.{Refusal}
 use Rattle.pw_chip.specs.declared.open.Refusal.TheVariants.{NoLabel, NoLeaf, NoPath}
 use Rattle.pw_chip.specs.Step.{opened, opened_on}
 use Rattle.pw_chip.specs.Law.{value_of, values, InLeaves, HasNoMacCollision}

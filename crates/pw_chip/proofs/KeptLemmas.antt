@@ -1,5 +1,5 @@
 -- What holds of the words and the ledger, and how a new log entry keeps it.
-use Rattle.std.proofs.Common.{◌≡◌, ℕ, ◌<◌, ◌^◌, inl, inr, true, false, Option, Some, None, List, refl, sym, ◌∙◌, subst, arith}
+use Rattle.std.proofs.Common.{◌≡◌, ◌≢◌, ℕ, ◌<◌, ◌^◌, inl, inr, true, false, Option, Some, None, List, refl, sym, ◌∙◌, subst, arith}
 use Rattle.std.specs.Prelude.{bytes_eq}
 use Rattle.std.proofs.lemmas.Bool.{cases_eq, cases_lt}
 use Rattle.std.proofs.lemmas.Slice.Eq.{bytes_eq-Decides}
@@ -17,10 +17,11 @@ use Rattle.pw_chip.specs.Ledger.{with_leaf}
 use Rattle.pw_chip.specs.Law.{values, InLeaves, HasNoMacCollision}
 use Rattle.pw_chip.proofs.GenuineLemmas.{Covered, values_hashes, same_leaf}
 
--- what an entry did to a leaf
+-- what an entry did to a leaf, and to it alone
 pub record Redone (e : LogEntry) (label : ℕ) (before leaves : ℕ → Option Contents) : Type 0 where
   pub leaf : Contents
   pub was : before label ≡ Some leaf
+  pub others : (i : ℕ) → i ≢ label → leaves i ≡ before i
   pub is : leaves label ≡ Some (redone_by e.verdict e.stamp leaf)
   pub room : is_full e.verdict leaf ≡ false
 

@@ -5,3 +5,6 @@ pub mod LawLemmas
 pub mod CountLemmas
 pub mod OpenLemmas
 pub mod StepLemmas
+pub mod WordsLemmas
+pub mod EraLemmas
+pub mod ReachedLemmas

@@ -1,6 +1,6 @@
 -- What opening a presented leaf comes to.
-use Rattle.std.proofs.Common.{◌≡◌, ◌≢◌, ℕ, ◌+◌, ◌<◌, ◌≤◌, ◌^◌, Bool, true, false, cond, eqb, ltb, leb, ◌&&◌, ◌||◌, Option, Some, None, Result, Ok, Err, List, [], ◌++◌, length, take, drop, refl, sym, ◌∙◌, ap, arith}
-use Rattle.std.specs.Prelude.{bytes_eq, slice_index}
+use Rattle.std.proofs.Common.{◌≡◌, ◌≢◌, ℕ, ◌<◌, ◌≤◌, ◌^◌, true, false, eqb, ltb, leb, ◌&&◌, ◌||◌, Option, Some, None, Result, Ok, Err, List, length, refl, sym, ◌∙◌, ap, arith}
+use Rattle.std.specs.Prelude.{bytes_eq}
 use Rattle.std.proofs.lemmas.Bool.{lt-ltb, le-ltb, eq-eqb, ne_eqb, or_parts, leb-false, ltb-false}
 use Rattle.std.proofs.lemmas.List.{drop_at, length-append}
 use Rattle.pw_path.specs.Path.{root_of}
@@ -9,9 +9,9 @@ use Rattle.pw_leaf.specs.declared.keys.ChipKeys.{ChipKeys}
 use Rattle.pw_leaf.specs.declared.leaf.Leaf.{Leaf}
 use Rattle.pw_leaf.specs.declared.fault.LeafFault.{LeafFault}
 use Rattle.pw_leaf.specs.declared.fault.LeafFault.TheVariants.{BadShape}
-use Rattle.pw_leaf.specs.Contents.{Contents, contents_of, leaf_of}
+use Rattle.pw_leaf.specs.Contents.{Contents, leaf_of}
 use Rattle.pw_leaf.specs.LeafBytes.{leaf_bytes, leaf_mac, leaf_text}
-use Rattle.pw_leaf.specs.Reading.{label_in, count_in, pairs_in, wrong_in, last_in, iv_in, mac_of, has_schedule, shape_fault, check_at, with_mac, leaf_at}
+use Rattle.pw_leaf.specs.Reading.{label_in, count_in, pairs_in, wrong_in, last_in, mac_of, has_schedule, shape_fault, check_at, with_mac, leaf_at}
 use Rattle.pw_leaf.proofs.Cases.{on_cond}
 use Rattle.pw_leaf.proofs.ReadLemmas.{check_at-is}
 use Rattle.pw_leaf.proofs.RecordLemmas.{length-leaf_mac}

@@ -1,5 +1,5 @@
 -- What a try and a replay come to, case by case.
-use Rattle.std.proofs.Common.{◌≡◌, ◌≢◌, ℕ, ◌+◌, ◌<◌, ◌≤◌, ◌^◌, Bool, true, false, cond, eqb, ltb, ◌&&◌, Option, Result, Ok, Err, IfOk, List, length, refl, sym, ◌∙◌, ap, subst, arith}
+use Rattle.std.proofs.Common.{◌≡◌, ◌≢◌, ℕ, ◌<◌, ◌≤◌, Bool, true, false, cond, eqb, Result, Ok, Err, IfOk, List, length, refl, sym, ◌∙◌, ap, subst}
 use Rattle.std.specs.Prelude.{bytes_eq}
 use Rattle.std.proofs.lemmas.Bool.{lt-ltb, le-ltb, eq-eqb, ne_eqb, and_left}
 use Rattle.pw_types.specs.Schedule.{limit_of}
@@ -8,8 +8,6 @@ use Rattle.pw_types.specs.declared.stamp.Stamp.{Stamp}
 use Rattle.pw_types.specs.declared.delay.Readiness.{Readiness}
 use Rattle.pw_log.specs.declared.entry.LogEntry.{LogEntry}
 use Rattle.pw_log.specs.declared.entry.TheConstants.{INSERT, NO_VERDICT, WRONG}
-use Rattle.pw_leaf.specs.declared.keys.ChipKeys.{ChipKeys}
-use Rattle.pw_leaf.specs.declared.fault.LeafFault.{LeafFault}
 use Rattle.pw_leaf.specs.Contents.{Contents, bumped, cleared}
 use Rattle.pw_leaf.specs.LeafBytes.{leaf_bytes, leaf_mac}
 use Rattle.pw_leaf.specs.Reading.{mac_of}

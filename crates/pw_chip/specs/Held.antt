@@ -1,5 +1,5 @@
 -- What the code keeps of a leaf that it opened.
-use Rattle.std.specs.Prelude.{◌≡◌, ℕ, ◌<◌, ◌≤◌, ◌^◌, ◌↔◌, List, Ok}
+use Rattle.std.specs.Prelude.{◌≡◌, ℕ, ◌<◌, ◌≤◌, ◌^◌, ◌↔◌, List}
 use Rattle.pw_path.specs.Path.{root_of}
 use Rattle.pw_log.specs.declared.entry.LogEntry.{LogEntry}
 use Rattle.pw_log.specs.declared.entry.TheConstants.{RESET, TRY, WRONG}

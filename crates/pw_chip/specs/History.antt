@@ -54,3 +54,8 @@ history_after w ledger (Calls call now ∷ events) history =
 unfoldable pub ledger_in_the_end : ChipState → Ledger → List Event → Ledger
 ledger_in_the_end w ledger [] = ledger
 ledger_in_the_end w ledger (event ∷ events) = ledger_in_the_end (words_after w event) (ledger_after w ledger event) events
+
+-- the words after these events
+unfoldable pub words_in_the_end : ChipState → List Event → ChipState
+words_in_the_end w [] = w
+words_in_the_end w (event ∷ events) = words_in_the_end (words_after w event) events

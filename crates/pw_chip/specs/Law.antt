@@ -1,7 +1,7 @@
 -- The recorded inputs, and the chip law.
 use Rattle.std.specs.Prelude.{◌≡◌, ℕ, ◌<◌, ◌^◌, ◌⊎◌, Option, Some, None, List, [], ◌∷◌, length}
 use Rattle.hmac_sha.specs.Hmac.{hmac}
-use Rattle.pw_path.specs.Tree.{root, no_hash}
+use Rattle.pw_path.specs.Tree.{root, aux_of, no_hash}
 use Rattle.pw_path.specs.Path.{root_of, OnPath, OnTree, IsAux, HasNoCollision}
 use Rattle.pw_types.specs.Schedule.{IsSchedule}
 use Rattle.pw_leaf.specs.declared.keys.ChipKeys.{ChipKeys}
@@ -13,8 +13,8 @@ use Rattle.pw_chip.specs.declared.reply.Reply.TheVariants.{Done, Inserted, Repla
 use Rattle.pw_chip.specs.State.{ChipState, booted}
 use Rattle.pw_chip.specs.Calls.{CallData, ResetTree, Insert, Remove, Try, Reset, GetLog, Replay}
 use Rattle.pw_chip.specs.declared.open.Refusal.{Refusal}
-use Rattle.pw_chip.specs.Step.{refused, tried, reset_at, step}
-use Rattle.pw_chip.specs.Ledger.{Event, Boots, Calls, Ledger, noted_call, noted_boot}
+use Rattle.pw_chip.specs.Step.{refused, tried, reset_at, redone_by, step}
+use Rattle.pw_chip.specs.Ledger.{with_leaf, Event, Boots, Calls, Ledger, noted_call, noted_boot}
 
 -- ---- the tree of a ledger
 
@@ -113,21 +113,49 @@ AreEvents (event ∷ events) = IsEvent event × AreEvents events
 pub data IsRefused : Reply → Type 0 where
   by : (refusal : Refusal) → IsRefused (refused refusal)
 
--- the record is that of the ledger's leaf at the label, and the reply is this one of that leaf
-abbrev pub IsOfLeaf : ChipKeys → (ℕ → Option Contents) → ℕ → List ℕ → (Contents → Reply) → Reply → Type 0
-IsOfLeaf keys leaves label leaf answer reply = (x : Contents) × ((leaves label ≡ Some x) × ((leaf ≡ leaf_bytes keys x) × (reply ≡ answer x)))
+-- the record is that of the ledger's leaf at the label, byte for byte, its path is the true one, and the reply is this one of that leaf
+pub record IsOfLeaf (keys : ChipKeys) (leaves : ℕ → Option Contents) (label : ℕ) (aux : List (List (List ℕ))) (leaf : List ℕ) (answer_to : Contents → Reply) (reply : Reply) : Type 0 where
+  pub contents : Contents
+  pub stands : leaves label ≡ Some contents
+  pub bytes : leaf ≡ leaf_bytes keys contents
+  pub path : aux ≡ aux_of (values keys leaves) label
+  pub answer : reply ≡ answer_to contents
+
+-- the record is that of the leaf before the newest entry, byte for byte: with it in the ledger's place the tree has the older root. Its
+-- path is the true one, of that tree and of the ledger's, and the reply is the ledger's leaf, which the entry made of it.
+pub record IsOfOlderLeaf (w : ChipState) (leaves : ℕ → Option Contents) (label : ℕ) (aux : List (List (List ℕ))) (leaf : List ℕ) (reply : Reply) : Type 0 where
+  pub before : Contents
+  pub bytes : leaf ≡ leaf_bytes w.keys before
+  pub root : w.log.older.root ≡ root (values w.keys (with_leaf leaves label (Some before)))
+  pub older_path : aux ≡ aux_of (values w.keys (with_leaf leaves label (Some before))) label
+  pub path : aux ≡ aux_of (values w.keys leaves) label
+  pub stands : leaves label ≡ Some (redone_by w.log.newest.verdict w.log.newest.stamp before)
+  pub answer : reply ≡ Replayed (leaf_bytes w.keys (redone_by w.log.newest.verdict w.log.newest.stamp before))
+
+-- the label is unused, the path is its true one, and the record is that of the new leaf
+pub record IsOfNewLeaf (keys : ChipKeys) (leaves : ℕ → Option Contents) (label : ℕ) (aux : List (List (List ℕ))) (x : Contents) (leaf : List ℕ) : Type 0 where
+  pub unused : leaves label ≡ None
+  pub path : aux ≡ aux_of (values keys leaves) label
+  pub bytes : leaf ≡ leaf_bytes keys x
+
+-- the label is used, the MAC is its leaf's, and the path is its true one
+pub record IsOfUsed (keys : ChipKeys) (leaves : ℕ → Option Contents) (label : ℕ) (aux : List (List (List ℕ))) (mac : List ℕ) : Type 0 where
+  pub contents : Contents
+  pub stands : leaves label ≡ Some contents
+  pub value : mac ≡ leaf_mac keys contents
+  pub path : aux ≡ aux_of (values keys leaves) label
 
 -- what the reply to a call says of the ledger before it
 unfoldable pub IsLawful : ChipState → Ledger → CallData → ℕ → Reply → Type 0
 IsLawful w ledger (Try label aux leaf les) now reply =
-    IsRefused reply ⊎ IsOfLeaf w.keys ledger.leaves label leaf (λ x. tried w.keys x les (record { boot = ledger.boot; at = now }) ledger.start) reply
+    IsRefused reply ⊎ IsOfLeaf w.keys ledger.leaves label aux leaf (λ x. tried w.keys x les (record { boot = ledger.boot; at = now }) ledger.start) reply
 IsLawful w ledger (Reset label aux leaf reset) now reply =
-    IsRefused reply ⊎ IsOfLeaf w.keys ledger.leaves label leaf (λ x. reset_at w.keys x reset) reply
+    IsRefused reply ⊎ IsOfLeaf w.keys ledger.leaves label aux leaf (λ x. reset_at w.keys x reset) reply
 IsLawful w ledger (Replay label aux leaf) now reply =
-    (IsRefused reply ⊎ (reply ≡ RootUnknown)) ⊎ ((x : Contents) × ((ledger.leaves label ≡ Some x) × (reply ≡ Replayed (leaf_bytes w.keys x))))
+    (IsRefused reply ⊎ (reply ≡ RootUnknown)) ⊎ IsOfOlderLeaf w ledger.leaves label aux leaf reply
 IsLawful w ledger (Insert label aux mac les hes reset schedule iv) now (Inserted leaf) =
-    (ledger.leaves label ≡ None) × (leaf ≡ leaf_bytes w.keys (new_contents label les hes reset schedule iv))
-IsLawful w ledger (Remove label aux mac) now Done = (x : Contents) × (ledger.leaves label ≡ Some x)
+    IsOfNewLeaf w.keys ledger.leaves label aux (new_contents label les hes reset schedule iv) leaf
+IsLawful w ledger (Remove label aux mac) now Done = IsOfUsed w.keys ledger.leaves label aux mac
 IsLawful w ledger _ now _ = Unit {0}
 
 abbrev pub IsLawfulEvent : ChipState → Ledger → Event → Type 0

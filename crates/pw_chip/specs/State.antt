@@ -1,5 +1,5 @@
 -- What a chip keeps: its words as data.
-use Rattle.std.specs.Prelude.{ℕ, ◌+◌, ◌-◌, ◌^◌, min, List}
+use Rattle.std.specs.Prelude.{◌≡◌, ℕ, ◌+◌, ◌-◌, ◌^◌, min, List}
 use Rattle.pw_path.specs.Tree.{root, no_hash}
 use Rattle.pw_log.specs.declared.entry.LogEntry.{LogEntry}
 use Rattle.pw_log.specs.declared.entry.TheConstants.{BLANK, NO_VERDICT}
@@ -29,3 +29,9 @@ new_state keys = record { keys = keys; boot = 0; start = 0; log = record { newes
 -- the next boot, at a moment; the number stays at its end
 abbrev pub booted : ChipState → ℕ → ChipState
 booted w moment = record w { boot = min (w.boot + 1) (2 ^ 64 - 1); start = moment }
+
+-- the keys and the boot stay
+pub record IsSameEra (before after : ChipState) : Type 0 where
+  pub keys : after.keys ≡ before.keys
+  pub boot : after.boot ≡ before.boot
+  pub start : after.start ≡ before.start

@@ -1,11 +1,31 @@
 -- The 256 bytes of a chip's words: how they are written, and how they are read.
-use Rattle.std.specs.Prelude.{◌≡◌, ℕ, ◌+◌, ◌^◌, Bool, ◌==◌, ◌&&◌, ◌||◌, not, nat_lt, nat_le, Option, Some, None, Result, Ok, Err, List, [], ◌∷◌, ◌++◌, take, drop, replicate, slice_index, bytes_eq, if◌then◌else◌}
+use Rattle.std.specs.Prelude.{◌≡◌, ℕ, ◌+◌, ◌<◌, ◌≤◌, ◌^◌, Bool, ◌==◌, ◌||◌, nat_lt, nat_le, Option, Some, None, Result, Ok, Err, List, [], ◌∷◌, ◌++◌, take, drop, replicate, length, slice_index, bytes_eq, if◌then◌else◌}
 use Rattle.std.specs.Int.{w16, w64, to_be_bytes, from_be_bytes}
 use Rattle.pw_log.specs.declared.entry.LogEntry.{LogEntry}
+use Rattle.pw_log.specs.Entry.{IsEntry}
 use Rattle.pw_log.specs.declared.entry.TheConstants.{RESET, TRY, RIGHT, WRONG}
 use Rattle.pw_chip.specs.declared.bytes.WordsFault.{WordsFault}
 use Rattle.pw_chip.specs.declared.bytes.WordsFault.TheVariants.{BadWords}
 use Rattle.pw_chip.specs.State.{ChipState}
+
+-- ---- what can be kept
+
+-- an entry in its ranges, with hashes of 32 bytes and the number of a boot
+pub record IsKept (e : LogEntry) : Type 0 where
+  pub ranges : IsEntry e
+  pub root : length e.root ≡ 32
+  pub mac : length e.mac ≡ 32
+  pub boot : e.stamp.boot < 2 ^ 64
+
+-- the words of a chip that was booted
+pub record IsWords (w : ChipState) : Type 0 where
+  pub mac_key : length w.keys.mac ≡ 32
+  pub cipher_key : length w.keys.enc ≡ 32
+  pub booted : 1 ≤ w.boot
+  pub boot : w.boot < 2 ^ 64
+  pub start : w.start < 2 ^ 40
+  pub newest : IsKept w.log.newest
+  pub older : IsKept w.log.older
 
 -- ---- writing
 

@@ -12,7 +12,7 @@ mod words;
 
 pub use bytes::{WORDS_BYTES, WordsFault};
 pub use call::Call;
-pub use laws::{chip_law, count_law};
+pub use laws::{chip_law, count_law, reached_words_are_read, written_words_are_read};
 pub use reply::Reply;
 pub use step::Chip;
 pub use words::Words;

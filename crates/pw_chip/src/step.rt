@@ -7,6 +7,7 @@ ghost use Rattle.pw_leaf.specs.Contents.{new_contents};
 ghost use Rattle.pw_leaf.specs.Reading.{check_at};
 ghost use Rattle.pw_chip.specs.CallOf.{data_of};
 ghost use Rattle.pw_chip.specs.Held.{held};
+ghost use Rattle.pw_chip.specs.State.{IsSameEra};
 ghost use Rattle.pw_chip.specs.Step.{
   step,
   reset_tree_step,
@@ -49,46 +50,57 @@ impl Chip {
     /// the newest entry is no try or reset of this label, `LeafInvalid`, `PathAuthFailed` against the older
     /// root, `Locked` where the leaf has no try left to count. A call that leaves the root as it is
     /// changes no word.
-    #[tactic(auto, unfolding(crate::specs::Step::step))]
+    ///
+    /// The keys and the boot stay.
+    #[tactic(auto, using(crate::proofs::EraLemmas::era_step))]
     pub fn step(words: &mut Words, call: &Call, now: u64) -> Reply
         requires { now < 2 ^ 40 }
-        ensures { step words.old (data_of call.now) now ≡ (result, words.new) }
+        ensures value { step words.old (data_of call.now) now ≡ (result, words.new) }
+        ensures same { IsSameEra words.old words.new }
     {
-        match call {
-            Call::ResetTree => reset_tree(words, now),
-            Call::Insert {
-                label,
-                aux,
-                mac,
-                les,
-                hes,
-                reset,
-                schedule,
-                iv,
-            } => {
-                let secrets = NewLeafSecrets {
-                    les: *les,
-                    hes: *hes,
-                    reset: *reset,
-                };
-                insert(words, *label, aux, mac, &secrets, schedule, *iv, now)
-            }
-            Call::Remove { label, aux, mac } => remove(words, *label, aux, mac, now),
-            Call::Try {
-                label,
-                aux,
-                leaf,
-                les,
-            } => try_leaf(words, *label, aux, leaf, les, now),
-            Call::Reset {
-                label,
-                aux,
-                leaf,
-                reset,
-            } => reset_leaf(words, *label, aux, leaf, reset, now),
-            Call::GetLog { host } => log_reply(words, host),
-            Call::Replay { label, aux, leaf } => replay(words, *label, aux, leaf),
+        reply_to(words, call, now)
+    }
+}
+
+#[tactic(auto, unfolding(crate::specs::Step::step))]
+fn reply_to(words: &mut Words, call: &Call, now: u64) -> Reply
+    requires { now < 2 ^ 40 }
+    ensures { step words.old (data_of call.now) now ≡ (result, words.new) }
+{
+    match call {
+        Call::ResetTree => reset_tree(words, now),
+        Call::Insert {
+            label,
+            aux,
+            mac,
+            les,
+            hes,
+            reset,
+            schedule,
+            iv,
+        } => {
+            let secrets = NewLeafSecrets {
+                les: *les,
+                hes: *hes,
+                reset: *reset,
+            };
+            insert(words, *label, aux, mac, &secrets, schedule, *iv, now)
         }
+        Call::Remove { label, aux, mac } => remove(words, *label, aux, mac, now),
+        Call::Try {
+            label,
+            aux,
+            leaf,
+            les,
+        } => try_leaf(words, *label, aux, leaf, les, now),
+        Call::Reset {
+            label,
+            aux,
+            leaf,
+            reset,
+        } => reset_leaf(words, *label, aux, leaf, reset, now),
+        Call::GetLog { host } => log_reply(words, host),
+        Call::Replay { label, aux, leaf } => replay(words, *label, aux, leaf),
     }
 }
 

@@ -1,7 +1,7 @@
 //! What a chip keeps.
 
 ghost use Rattle.std.specs.Prelude.{◌≡◌, ◌<◌, ◌≤◌, ◌^◌};
-ghost use Rattle.pw_chip.specs.WordsBytes.{words_at, words_bytes};
+ghost use Rattle.pw_chip.specs.WordsBytes.{IsWords, words_at, words_bytes};
 ghost use Rattle.pw_log.specs.Entry.{IsEntry};
 ghost use Rattle.pw_chip.specs.State.{new_state, booted, blank_entry};
 ghost use Rattle.pw_chip.specs.Step.{logged};
@@ -57,7 +57,8 @@ impl Words {
     /// there.
     pub fn boot(&mut self, moment: u64)
         requires { moment < 2 ^ 40 }
-        ensures { self.new ≡ booted self.old moment }
+        ensures value { self.new ≡ booted self.old moment }
+        ensures kept { IsWords self.new }
     {
         self.boot = self.boot.saturating_add(1);
         self.start = moment;

@@ -1,4 +1,4 @@
-use Rattle.std.proofs.Common.{◌≡◌, ◌-◌, ◌≤◌, length, drop, ◌∙◌, arith}
+use Rattle.std.proofs.Common.{◌≡◌, length, drop, ◌∙◌, arith}
 use Rattle.std.proofs.lemmas.List.{take_all, length-drop}
 use Rattle.pw_chip.proofs.change.mac_in.Goals as goal
 

@@ -1,7 +1,6 @@
-use Rattle.std.proofs.Common.{◌≡◌, IfOk, ℕ, List, length, refl, sym, ◌∙◌, ap, subst, arith}
-use Rattle.pw_types.specs.declared.stamp.Stamp.{Stamp}
+use Rattle.std.proofs.Common.{◌≡◌, IfOk, ◌∙◌, ap, subst, arith}
 use Rattle.pw_leaf.specs.declared.keys.ChipKeys.{ChipKeys}
-use Rattle.pw_leaf.specs.Contents.{Contents, cleared}
+use Rattle.pw_leaf.specs.Contents.{cleared}
 use Rattle.pw_leaf.specs.LeafBytes.{leaf_bytes}
 use Rattle.pw_leaf.specs.Reading.{check_at}
 use Rattle.pw_chip.specs.Step.{logged}

@@ -1,9 +1,9 @@
-use Rattle.std.proofs.Common.{◌≡◌, ◌<◌, ◌≤◌, ◌⊎◌, inl, inr, true, false, Ok, Err, length, refl, sym, ◌∙◌, ap, arith}
+use Rattle.std.proofs.Common.{inl, inr, Ok, refl, sym, ◌∙◌, ap}
 use Rattle.std.specs.Prelude.{bytes_eq}
 use Rattle.std.proofs.lemmas.Bool.{cases_lt, not-true, not-false, false≢true}
 use Rattle.pw_path.specs.Path.{root_of}
 use Rattle.pw_leaf.specs.Contents.{contents_of}
-use Rattle.pw_leaf.specs.Reading.{iv_in, mac_of, leaf_at, check_at}
+use Rattle.pw_leaf.specs.Reading.{iv_in}
 use Rattle.pw_chip.proofs.OpenLemmas.{count_within, moment_below, length_read, mac_read, opened-no_label, opened-fault, opened-foreign, opened-no_path, opened-ok}
 use Rattle.pw_chip.proofs.open.open.Goals as goal
 

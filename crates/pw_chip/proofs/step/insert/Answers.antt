@@ -1,4 +1,4 @@
-use Rattle.std.proofs.Common.{◌≡◌, ◌<◌, ℕ, List, true, length, refl, sym, ◌∙◌, ap, arith}
+use Rattle.std.proofs.Common.{◌≡◌, true, refl, sym, ◌∙◌, ap, arith}
 use Rattle.std.specs.Prelude.{bytes_eq}
 use Rattle.std.proofs.lemmas.Bool.{not-false}
 use Rattle.pw_path.specs.Tree.{no_hash}
@@ -7,7 +7,7 @@ use Rattle.pw_log.specs.declared.entry.TheConstants.{INSERT, NO_VERDICT}
 use Rattle.pw_leaf.specs.Contents.{new_contents}
 use Rattle.pw_leaf.specs.LeafBytes.{leaf_bytes}
 use Rattle.pw_chip.specs.declared.reply.Reply.TheVariants.{Inserted}
-use Rattle.pw_chip.specs.Step.{logged, insert_step}
+use Rattle.pw_chip.specs.Step.{logged}
 use Rattle.pw_chip.specs.Held.{entry_of}
 use Rattle.pw_chip.proofs.StepLemmas.{entry_of-leaf_bytes, insert_step-ok}
 use Rattle.pw_chip.proofs.step.insert.Goals as goal

@@ -1,15 +1,14 @@
-use Rattle.std.proofs.Common.{◌≡◌, ◌<◌, ℕ, true, false, eqb, Ok, Err, IfOk, subst, List, refl, sym, ◌∙◌, ap, arith}
-use Rattle.std.proofs.lemmas.Bool.{not-true, not-false, eq-eqb, ne_eqb}
+use Rattle.std.proofs.Common.{◌≡◌, true, false, Ok, Err, IfOk, subst, refl, sym, ◌∙◌, ap}
+use Rattle.std.proofs.lemmas.Bool.{eq-eqb, ne_eqb}
 use Rattle.pw_log.specs.declared.entry.LogEntry.{LogEntry}
 use Rattle.pw_log.specs.Pair.{Entries}
 use Rattle.pw_types.specs.Schedule.{limit_of}
 use Rattle.pw_leaf.specs.declared.keys.ChipKeys.{ChipKeys}
-use Rattle.pw_leaf.specs.Contents.{Contents, bumped, cleared}
+use Rattle.pw_leaf.specs.Contents.{bumped, cleared}
 use Rattle.pw_leaf.specs.LeafBytes.{leaf_bytes}
 use Rattle.pw_leaf.specs.Reading.{check_at}
-use Rattle.pw_chip.specs.declared.reply.Reply.{Reply}
 use Rattle.pw_chip.specs.declared.reply.Reply.TheVariants.{Locked, Replayed}
-use Rattle.pw_chip.specs.Step.{opened, replay_step, is_replayed}
+use Rattle.pw_chip.specs.Step.{opened}
 use Rattle.pw_chip.specs.Held.{held}
 use Rattle.pw_chip.proofs.StepLemmas.{at_ok, replay_step-no_label, replay_step-other, replay_step-refused, replay_step-done, redone_cleared, redone_bumped, not_full-right, full-wrong}
 use Rattle.pw_chip.proofs.step.replay.Goals as goal

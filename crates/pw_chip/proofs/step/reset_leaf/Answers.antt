@@ -1,11 +1,11 @@
-use Rattle.std.proofs.Common.{◌≡◌, ◌<◌, ℕ, true, false, Ok, Err, refl, sym, ◌∙◌, ap}
+use Rattle.std.proofs.Common.{◌≡◌, true, false, Ok, Err, refl, sym, ◌∙◌, ap}
 use Rattle.std.specs.Prelude.{bytes_eq}
 use Rattle.std.proofs.lemmas.Bool.{not-true, not-false}
 use Rattle.pw_types.specs.declared.stamp.Stamp.{Stamp}
 use Rattle.pw_log.specs.declared.entry.TheConstants.{RESET, NO_VERDICT}
 use Rattle.pw_leaf.specs.Contents.{cleared}
 use Rattle.pw_chip.specs.declared.reply.Reply.TheVariants.{Cleared, ResetWrong}
-use Rattle.pw_chip.specs.Step.{opened, logged, leaf_entry, reset_step}
+use Rattle.pw_chip.specs.Step.{opened, logged, leaf_entry}
 use Rattle.pw_chip.specs.Held.{held}
 use Rattle.pw_chip.proofs.StepLemmas.{reset_step-refused, reset_step-when}
 use Rattle.pw_chip.proofs.step.reset_leaf.Goals as goal

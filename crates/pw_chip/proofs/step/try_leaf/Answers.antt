@@ -1,11 +1,10 @@
-use Rattle.std.proofs.Common.{◌≡◌, ◌<◌, ℕ, Ok, Err, refl, sym, ◌∙◌, ap}
+use Rattle.std.proofs.Common.{◌≡◌, Ok, Err, refl, sym, ◌∙◌, ap}
 use Rattle.pw_types.specs.Delay.{readiness}
-use Rattle.pw_types.specs.Schedule.{limit_of}
 use Rattle.pw_types.specs.declared.stamp.Stamp.{Stamp}
 use Rattle.pw_types.specs.declared.delay.Readiness.TheVariants as delay
 use Rattle.pw_types.proofs.DelayLemmas.{below_limit}
 use Rattle.pw_chip.specs.declared.reply.Reply.TheVariants.{Delayed, Locked}
-use Rattle.pw_chip.specs.Step.{opened, after_try, try_step}
+use Rattle.pw_chip.specs.Step.{opened, after_try}
 use Rattle.pw_chip.specs.Held.{held}
 use Rattle.pw_chip.proofs.StepLemmas.{try_step-refused, try_step-when}
 use Rattle.pw_chip.proofs.step.try_leaf.Goals as goal
