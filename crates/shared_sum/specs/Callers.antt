@@ -1,7 +1,9 @@
 -- Callers with their seats, before and after their turns.
-use Rattle.std.specs.Prelude.{◌≡◌, ℕ, ◌%◌, ◌^◌, ◌<◌, List, [], ◌∷◌, ◌++◌, length, slice_index_or, Option, None, Some, IsSomeAnd}
-use Rattle.turn_lock.specs.Lists.{total, count_of}
+use Rattle.std.specs.Prelude.{◌≡◌, ℕ, ◌%◌, ◌^◌, ◌<◌, List, [], ◌∷◌, ◌++◌, map, length, slice_index_or, Option, None, Some, IsSomeAnd}
+use Rattle.std.specs.List.{AllByRecursion}
+use Rattle.turn_lock.specs.Lists.{total, count_of, numbers_from}
 use Rattle.turn_lock.specs.Seats.{LockId, SeatView, numbers_of}
+use Rattle.shared_sum.specs.Summed.{amount_of}
 use Rattle.shared_sum.specs.declared.sum.Added.{Added}
 use Rattle.shared_sum.specs.declared.callers.Caller.{Caller}
 
@@ -17,6 +19,10 @@ numbers_at (Some seat) = numbers_of seat
 -- how often the callers have a number
 abbrev pub count_in : ℕ → List Caller → ℕ
 count_in number callers = total (λ caller. count_of number (numbers_at caller.seat)) callers
+
+-- the callers have all numbers of the lock
+abbrev pub HaveAllNumbers : LockId → List Caller → Type 0
+HaveAllNumbers id callers = (number : ℕ) → number < id.callers → 0 < count_in number callers
 
 abbrev pub KeepsNumbers : Caller → Caller → Type 0
 KeepsNumbers old new = numbers_at new.seat ≡ numbers_at old.seat
@@ -35,3 +41,58 @@ AddsEntry old new amount reduced = (place : ℕ) × (total : ℕ)
     × (new ≡ record old {
       own = old.own ++ (place, record { caller = old.caller; amount = amount; total = total }) ∷ [];
     })
+
+-- the amounts of entries, and their places modulo 2^64
+abbrev pub amounts_of : List (ℕ × Added) → List ℕ
+amounts_of entries = map (λ known. amount_of known.1) entries
+
+abbrev pub places_of : List (ℕ × Added) → List ℕ
+places_of entries = map (λ known. known.0 % 2 ^ 64) entries
+
+-- The seat has some entries more, whose amounts go on from the number of places told before, and
+-- whose places were told.
+pub record MakesTurns (old new : SeatView Added) (before after : List ℕ) : Type 0 where
+  pub entries : List (ℕ × Added)
+  pub seat : new ≡ record old { own = old.own ++ entries }
+  pub amounts : amounts_of entries ≡ numbers_from (length before) (length entries)
+  pub places : after ≡ before ++ places_of entries
+
+-- a caller after its turns
+abbrev pub AfterTurns : Caller → Caller → Type 0
+AfterTurns old new = (new.turns ≡ old.turns)
+    × ((seat : SeatView Added) → old.seat ≡ Some seat
+    → IsSomeAnd new.seat (λ after. MakesTurns seat after old.places.items new.places.items))
+
+-- each caller after its turns
+pub record EachAfterTurns (old new : List Caller) : Type 0 where
+  pub count : length new ≡ length old
+  pub each : (k : ℕ) (caller : Caller)
+      → k < length old
+      → AfterTurns (slice_index_or old k caller) (slice_index_or new k caller)
+
+-- the caller was told as many places as it has turns
+abbrev pub HasAllTurns : Caller → Type 0
+HasAllTurns caller = length caller.places.items ≡ caller.turns
+
+-- a seat that knows no entry, and has only its own number
+abbrev pub IsBlankSeat : SeatView Added → Type 0
+IsBlankSeat seat = (seat.own ≡ []) × (seat.joined ≡ []) × (seat.spare ≡ [])
+
+-- a caller with such a seat, which is to make so many turns, and has made none
+abbrev pub IsNewCaller : ℕ → Caller → Type 0
+IsNewCaller turns caller =
+    (caller.turns ≡ turns) × (caller.places.items ≡ []) × IsSomeAnd caller.seat IsBlankSeat
+
+-- the entries are those of so many turns, in their order
+abbrev pub AreTurns : ℕ → List (ℕ × Added) → Type 0
+AreTurns turns entries = amounts_of entries ≡ numbers_from 0 turns
+
+-- a seat with no spare number, each of whose numbers made so many turns
+pub record KnowsTurns (turns : ℕ) (seat : SeatView Added) : Type 0 where
+  pub own : AreTurns turns seat.own
+  pub joined : AllByRecursion (λ known. AreTurns turns known.1) seat.joined
+  pub spare : seat.spare ≡ []
+
+-- the caller has such a seat
+abbrev pub HasKnownTurns : ℕ → Caller → Type 0
+HasKnownTurns turns caller = IsSomeAnd caller.seat (KnowsTurns turns)

@@ -1,16 +1,12 @@
 //! What callers do.
-ghost use Rattle.std.specs.Prelude.{◌≡◌, ◌<◌, All, IfSome, IfNone};
+ghost use Rattle.std.specs.Prelude.{◌≡◌, IfSome, IfNone};
 ghost use Rattle.turn_lock.specs.Seats.{numbers_of};
-ghost use Rattle.shared_sum.specs.Callers.{HasSeat, KeepsNumbers, EachKeepsNumbers, AddsEntry};
-ghost use Rattle.shared_sum.specs.Summed.{IsSumOf};
+ghost use Rattle.shared_sum.specs.Callers.{HasSeat, KeepsNumbers, AddsEntry, MakesTurns, AfterTurns};
 
-use crate::seats::{callers_of, joined_seat_of};
 use crate::sum::{Added, Sum};
 use std::alloc::Global;
 use std::sync::Wait;
-use std::thread;
-use std::thread::Threads;
-use turn_lock::{Chain, Link, Receipt, Seat, Turnstile};
+use turn_lock::{Link, Receipt, Seat, Turnstile};
 
 /// Adds the amount in a turn of the seat. Without memory there is none, and no receipt.
 pub fn add<R: Wait>(
@@ -44,67 +40,47 @@ pub fn add<R: Wait>(
     (seat, Some(receipt))
 }
 
-/// A caller with its seat, and how many turns it makes.
+/// A caller with its seat, how many turns it is to make, and where the entries of those that it has
+/// made stand in the chain, as its receipts say.
 #[derive(Drop)]
 pub struct Caller {
     pub seat: Option<Seat<Sum>>,
     pub turns: u32,
+    pub places: Vec<u64>,
 }
 
-// Adds the numbers from 0 on, one a turn.
-fn add_turns<R: Wait>(rt: &R, alloc: Global, lock: &Turnstile<Sum>, caller: &mut Caller)
-    requires { HasSeat lock.now.id caller.old }
-    ensures seat { HasSeat lock.now.id caller.new }
-    ensures numbers { KeepsNumbers caller.old caller.new }
-{
-    let mut seat = caller.seat.take().unwrap();
-    for amount in 0..caller.turns {
-        let (back, _receipt) = add(rt, alloc, lock, seat, amount as u64);
-        seat = back;
-    }
-    caller.seat = Some(seat);
-}
-
-/// Each caller adds on a thread of its own, where threads can be made.
-pub fn add_all<R: Threads + Wait + Sync>(
+// Adds in one turn as much as turns were made before. Without memory there is no turn.
+fn add_turn<R: Wait>(
     rt: &R,
     alloc: Global,
     lock: &Turnstile<Sum>,
-    callers: &mut [Caller],
-)
-    requires { All (HasSeat lock.now.id) callers.old }
-    ensures seats { All (HasSeat lock.now.id) callers.new }
-    ensures numbers { EachKeepsNumbers callers.old callers.new }
+    seat: Seat<Sum>,
+    places: &mut Vec<u64>,
+) -> Seat<Sum>
+    requires { seat.lock ≡ lock.now.id }
+    ensures { MakesTurns seat result places.old.items places.new.items }
 {
-    thread::for_each_mut(
-        rt,
-        callers,
-        8,
-        &|_, caller| { add_turns(rt, alloc, lock, caller) },
-    );
+    // The room for the receipt comes first, so that no turn is made whose place is lost.
+    if places.reserve(1).is_err() {
+        return seat;
+    }
+    let (seat, told) = add(rt, alloc, lock, seat, places.len() as u64);
+    if let Some(receipt) = told {
+        places.push_reserved(receipt.place);
+    }
+    seat
 }
 
-/// So many callers, each with its turns on a thread of its own, and then the lock closed.
-///
-/// Without memory there is nothing.
-pub fn add_on_threads<R: Threads + Wait + Sync>(
-    rt: &R,
-    alloc: Global,
-    first: Sum,
-    callers: u32,
-    turns: u32,
-) -> Option<(Sum, Chain<Added>)>
-    requires { 0 < callers }
-    ensures sum { IfSome result (λ end. IsSumOf first end.0 end.1) }
-    ensures callers { IfSome result (λ end. All (λ entry. entry.caller < callers) end.1) }
+// Makes the turns that are left.
+pub(crate) fn add_turns<R: Wait>(rt: &R, alloc: Global, lock: &Turnstile<Sum>, caller: &mut Caller)
+    requires { HasSeat lock.now.id caller.old }
+    ensures seat { HasSeat lock.now.id caller.new }
+    ensures numbers { KeepsNumbers caller.old caller.new }
+    ensures after { AfterTurns caller.old caller.new }
 {
-    let Ok((lock, seat)) = Turnstile::new(alloc, first, callers) else {
-        return None;
-    };
-    let Ok(mut all) = callers_of(alloc, &lock, seat, callers, turns) else {
-        return None;
-    };
-    add_all(rt, alloc, &lock, all.as_mut_slice());
-    let seat = joined_seat_of(&lock, all)?;
-    Some(lock.close(seat))
+    let mut seat = caller.seat.take().unwrap();
+    for _ in caller.places.len()..caller.turns as usize {
+        seat = add_turn(rt, alloc, lock, seat, &mut caller.places);
+    }
+    caller.seat = Some(seat);
 }

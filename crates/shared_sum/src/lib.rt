@@ -6,7 +6,9 @@ mod seats;
 mod sum;
 #[cfg(test)]
 mod tests;
+mod threads;
 
-pub use callers::{Caller, add, add_all, add_on_threads};
+pub use callers::{Caller, add};
 pub use seats::{callers_of, joined_seat_of};
 pub use sum::{Added, Sum};
+pub use threads::{add_all, add_on_threads, closed, lock_after_turns};

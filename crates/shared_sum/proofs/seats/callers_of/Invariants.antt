@@ -3,7 +3,7 @@ use Rattle.std.proofs.Common.{◌≡◌, ℕ, ◌+◌, length}
 use Rattle.std.specs.Prelude.{All}
 use Rattle.turn_lock.specs.Lists.{count_of}
 use Rattle.turn_lock.specs.Seats.{numbers_of}
-use Rattle.shared_sum.specs.Callers.{HasSeat, count_in}
+use Rattle.shared_sum.specs.Callers.{HasSeat, IsNewCaller, count_in}
 use Rattle.shared_sum.proofs.seats.callers_of.Given as goal
 
 abbrev pub invariant-loop-number : goal.invariant-loop-number
@@ -14,3 +14,6 @@ invariant-loop-number l =
     × ((number : ℕ)
     → count_in number l.all.items + count_of number (numbers_of l.seat)
     ≡ count_of number (numbers_of l.fn.first))
+    × (l.seat.own ≡ l.fn.first.own)
+    × (l.seat.joined ≡ l.fn.first.joined)
+    × All (IsNewCaller l.turns) l.all.items
