@@ -2,7 +2,5 @@
 #![tactic(auto)]
 
 mod count;
-#[cfg(test)]
-mod tests;
 
 pub use count::{Failed, FaultCount};

@@ -1,6 +1,6 @@
-//! Each call once, with ample memory.
+//! Owned bytes and text: each call once, with ample memory.
 
-use crate::{Blob, Text};
+use ct_bytes::{Blob, Text};
 
 #[test]
 fn a_blob_grows_and_is_copied(rt: HostRuntime) {

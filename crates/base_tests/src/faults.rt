@@ -1,6 +1,6 @@
 //! The answer of a fault.
 
-use crate::{Failed, FaultCount};
+use fault_count::{Failed, FaultCount};
 
 #[test]
 fn each_fault_is_answered_as_failed(rt: HostRuntime) {
