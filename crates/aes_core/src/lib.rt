@@ -7,7 +7,5 @@ mod rounds;
 mod schedule;
 mod stream;
 mod tables;
-#[cfg(test)]
-mod tests;
 
 pub use cipher::{Aes128, Aes192, Aes256, Cipher};

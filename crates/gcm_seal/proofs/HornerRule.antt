@@ -2,10 +2,11 @@
 use Rattle.std.proofs.Common.{◌≡◌, ℕ, zero, suc, ◌+◌, ◌*◌, ◌/◌, ◌%◌, ◌^◌, ◌<◌, inl, inr, refl, ◌∙◌, ap, ap₂, sym, arith, bit_xor, bit_and, slice_index, Bool, true, ◌&&◌, ◌==◌, List}
 use Rattle.std.proofs.lemmas.Nat.{xor_comm, xor_block, shr-shr, and_mask}
 use Rattle.std.proofs.lemmas.Nat.Bits.{bit_at_cat_low}
-use Rattle.std.proofs.lemmas.Bool.{cases_lt, and_parts, eqb-true}
+use Rattle.std.proofs.lemmas.Bool.{eqb-true}
 use Rattle.std.specs.Int.Bits.{xor_zero_r}
 use lib.Bits.{xor_assoc}
 use Rattle.std.specs.Int.{bit_at}
+use Rattle.aes_core.proofs.TableRules.{all_below, all_below_at}
 use Rattle.gcm_seal.specs.declared.hash_key.TheConstants.{REDUCTIONS}
 use Rattle.gcm_seal.specs.Field128.{shifted_by, shifted}
 use Rattle.gcm_seal.specs.Horner.{horner, IsTable}
@@ -60,23 +61,6 @@ shifted_four a =
     ap (λ (x : ℕ). shifted (shifted (shifted x))) (ap shifted e3 ∙ shifted_whole (a * 8))
     ∙ ap (λ (x : ℕ). shifted (shifted x)) (ap shifted e2 ∙ shifted_whole (a * 4))
     ∙ ap shifted (ap shifted e1 ∙ shifted_whole (a * 2)) ∙ shifted_whole a
-
--- a test passes at each number below n
-all_below : (ℕ → Bool) → ℕ → Bool
-all_below p zero = true
-all_below p (suc n) = p n && all_below p n
-
-all_below_at : (p : ℕ → Bool) (n k : ℕ) → all_below p n ≡ true → k < n → p k ≡ true
-unfolding all_below
-all_below_at p zero k h lt = absurd (omega arith)
-all_below_at p (suc n) k h lt =
-    let parts = and_parts (p n) (all_below p n) h in
-    elim (cases_lt k n) [
-      | inl below ↦ all_below_at p n k parts.1 below
-      | inr top ↦
-          let e : k ≡ n = omega arith in
-          rw e parts.0
-    ]
 
 REDUCTIONS_test : ℕ → Bool
 REDUCTIONS_test n = shifted_by n 4 == slice_index REDUCTIONS n * 2 ^ 112

@@ -6,8 +6,6 @@ mod gcm;
 mod ghash;
 mod hash_key;
 mod sealing;
-#[cfg(test)]
-mod tests;
 
 pub use field::product;
 pub use hash_key::HashKey;

@@ -5,8 +5,6 @@ mod message;
 mod pads;
 mod pbkdf2;
 mod pieces;
-#[cfg(test)]
-mod tests;
 
 pub use message::mac;
 pub use pbkdf2::pbkdf2_one;

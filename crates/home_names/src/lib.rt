@@ -2,7 +2,5 @@
 #![tactic(auto)]
 
 mod account;
-#[cfg(test)]
-mod tests;
 
 pub use account::is_account_name;

@@ -1,9 +1,9 @@
 //! The chain of links.
 ghost use Rattle.std.specs.Prelude.{◌≡◌, [], ◌∷◌, ◌++◌, map, reverse, IfOk};
 
-use crate::fault::NoMemory;
 use crate::link::Link;
 use crate::stack::{Stack, Top, destroy_none};
+use ct_bytes::NoMemory;
 use std::alloc::Global;
 use std::marker::Model;
 use std::mem::replace;
@@ -38,7 +38,7 @@ impl<E> Chain<E> {
         ensures { result ≡ self ++ link ∷ [] }
     {
         let Chain { stack } = self;
-        let Link { entry, mut node } = link;
+        let (entry, mut node) = link.into_parts();
         destroy_none(replace(&mut node.entry, Some(entry)));
         replace(&mut node.below, stack).destroy_empty();
         Chain {

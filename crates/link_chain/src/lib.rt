@@ -2,12 +2,8 @@
 #![tactic(auto)]
 
 mod chain;
-mod fault;
 mod link;
 mod stack;
-#[cfg(test)]
-mod tests;
 
 pub use chain::Chain;
-pub use fault::NoMemory;
 pub use link::Link;

@@ -2,8 +2,8 @@
 ghost use Rattle.std.specs.Prelude.{◌≡◌, IfOk};
 ghost use Rattle.std.specs.Borrow.{sem};
 
-use crate::fault::NoMemory;
 use crate::stack::{Node, Stack, destroy_none};
+use ct_bytes::NoMemory;
 use std::alloc::Global;
 use std::marker::Model;
 
@@ -50,6 +50,20 @@ impl<E> Link<E> {
     }
 }
 
+impl<E> Link<E> {
+    ghost use Rattle.std.specs.Prelude.{◌≡◌};
+    ghost use Rattle.link_chain.specs.Link.{IsBlank};
+
+    // The entry, and the room that was brought for it.
+    pub(crate) fn into_parts(self) -> (E, Box<Node<E>>)
+        ensures entry { result.0 ≡ self }
+        ensures blank { IsBlank result.1.value }
+    {
+        let Link { entry, node } = self;
+        (entry, node)
+    }
+}
+
 impl<E: Drop> Link<E> {
     /// Takes the memory for the link of one entry. Where there is none, the entry is dropped.
     pub fn new(alloc: Global, entry: E) -> Result<Link<E>, NoMemory>
@@ -71,5 +85,20 @@ impl<E: Drop> Link<E> {
                 Err(NoMemory)
             }
         }
+    }
+}
+
+impl<E: Drop> Drop for Link<E> {
+    fn drop(self) {
+        let Link {
+            entry: _entry,
+            node,
+        } = self;
+        let Node {
+            entry: blank,
+            below,
+        } = Box::into_inner(node);
+        below.destroy_empty();
+        destroy_none(blank);
     }
 }

@@ -12,6 +12,3 @@ pub use entry::{
     BLANK, INSERT, LogEntry, NO_VERDICT, REMOVE, RESET, RESET_TREE, RIGHT, TRY, WRONG,
 };
 pub use laws::pushed_entry_is_told;
-
-#[cfg(test)]
-mod tests;

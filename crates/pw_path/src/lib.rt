@@ -11,6 +11,3 @@ pub use laws::{
     siblings_stay, true_path_gives_root,
 };
 pub use path::{Aux, Hash, LEVELS, empty_roots, root_of};
-
-#[cfg(test)]
-mod tests;

@@ -1,3 +1,4 @@
-pub mod Kept
-pub mod Schedule
 pub mod Delay
+pub mod Kept
+pub mod Moment
+pub mod Schedule

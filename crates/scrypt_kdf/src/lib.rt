@@ -8,8 +8,6 @@ mod fault;
 mod params;
 mod romix;
 mod salsa;
-#[cfg(test)]
-mod tests;
 mod words;
 
 pub use derivation::{derive, scrypt};

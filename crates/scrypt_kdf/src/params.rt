@@ -16,8 +16,8 @@ pub struct Params {
 impl Params {
     ghost use Rattle.scrypt_kdf.specs.Params.{IsAllowed};
 
-    // Whether scrypt takes these for an output of len bytes.
-    pub(crate) fn is_allowed(&self, len: usize) -> bool
+    /// Whether `scrypt` takes these for an output of `len` bytes.
+    pub fn is_allowed(&self, len: usize) -> bool
         ensures { IsTrue result ↔ IsAllowed self.now len }
     {
         if self.r < 1 || 8 < self.r || self.p < 1 || 64 < self.p || len < 1 || 1024 < len {

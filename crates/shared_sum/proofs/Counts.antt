@@ -4,7 +4,7 @@ use Rattle.std.specs.Prelude.{All, IsSomeAnd}
 use Rattle.std.proofs.lemmas.List.Elements.{All-pop}
 use Rattle.turn_lock.specs.Lists.{count_of}
 use Rattle.turn_lock.specs.Seats.{LockId, SeatView, numbers_of}
-use Rattle.turn_lock.proofs.Sums.{total-append}
+use Rattle.std.proofs.lemmas.List.Sums.{sum_by-append, sum_by-cons}
 use Rattle.shared_sum.specs.Callers.{HasSeat, numbers_at, count_in, EachKeepsNumbers}
 use Rattle.shared_sum.specs.declared.callers.Caller.{Caller}
 use Rattle.shared_sum.specs.declared.sum.Added.{Added}
@@ -22,7 +22,10 @@ count_in-kept number (x ∷ xs) (y ∷ ys) keeps =
     let rest = count_in-kept number xs ys record {
       count = omega arith;
       each = λ k caller low. keeps.each (suc k) caller (omega arith);
-    } in omega arith
+    } in
+    let numbers : Caller → ℕ = λ one. count_of number (numbers_at one.seat) in
+    let had = sum_by-cons numbers x xs in
+    let has = sum_by-cons numbers y ys in omega arith
 
 -- what one caller with a seat, behind the others, means
 module _ (all others : List Caller) (caller : Caller) (seat : SeatView Added)
@@ -33,7 +36,7 @@ module _ (all others : List Caller) (caller : Caller) (seat : SeatView Added)
   count_in-last number =
       let count : Caller → ℕ = λ one. count_of number (numbers_at one.seat) in
       let whole = ap (count_in number) is in
-      let parts = total-append count others (caller ∷ []) in
+      let parts = sum_by-append count others (caller ∷ []) in
       let own = ap (λ seat. count_of number (numbers_at seat)) has in omega arith
 
   -- where all have seats of a lock, the others have, and the seat is of it

@@ -1,12 +1,13 @@
 -- Turns after one another, and what a joined seat knows of them.
 use Rattle.std.proofs.Common.{◌≡◌, ℕ, zero, suc, ◌+◌, ◌%◌, ◌^◌, ◌<◌, eqb, ne_eqb, Bool, List, [], ◌∷◌, ◌++◌, length, map, Option, None, Some, sym, refl, ap, ◌∙◌, subst, arith, append_assoc, append-nil, length-append, if◌then◌else◌}
 use Rattle.std.specs.Prelude.{All, IsSomeAnd, slice_index_or}
-use Rattle.std.specs.List.{AllByRecursion}
+use Rattle.std.specs.List.{AllByRecursion, range_with_len}
+use Rattle.std.proofs.lemmas.List.Sums.{sum_by-cons}
 use Rattle.std.proofs.lemmas.List.{map-append, length-map}
 use Rattle.std.proofs.lemmas.List.Elements.{All-pop, recursion_from_All}
 use mathlib.Core.Logic.{dite}
 use native.Mathlib.Decide.{ℕ_discrete}
-use Rattle.turn_lock.specs.Lists.{count_of, numbers_from, entries_of}
+use Rattle.turn_lock.specs.Lists.{count_of, entries_of}
 use Rattle.turn_lock.specs.Seats.{SeatView, joined_seat, numbers_of, Recalls}
 use Rattle.turn_lock.proofs.Counts.{all-append}
 use Rattle.shared_sum.specs.Callers.{amounts_of, places_of, MakesTurns, EachAfterTurns, IsBlankSeat, IsNewCaller, HasAllTurns, AreTurns, KnowsTurns, HasKnownTurns}
@@ -17,17 +18,17 @@ use Rattle.shared_sum.specs.declared.sum.Added.{Added}
 abbrev Entries : Type 0
 Entries = List (ℕ × Added)
 
-numbers_from-append : (first n m : ℕ)
-    → numbers_from first (n + m) ≡ numbers_from first n ++ numbers_from (first + n) m
-numbers_from-append first zero m =
+range_with_len-append : (first n m : ℕ)
+    → range_with_len first (n + m) ≡ range_with_len first n ++ range_with_len (first + n) m
+range_with_len-append first zero m =
     let more : 0 + m ≡ m = omega arith in
-    let from : first ≡ first + 0 = omega arith in λ i. numbers_from (from i) (more i)
-numbers_from-append first (suc n) m =
+    let from : first ≡ first + 0 = omega arith in λ i. range_with_len (from i) (more i)
+range_with_len-append first (suc n) m =
     let count : suc n + m ≡ suc (n + m) = omega arith in
     let from : first + 1 + n ≡ first + suc n = omega arith in
-    ap (numbers_from first) count
-    ∙ (ap (λ rest. first ∷ rest) (numbers_from-append (first + 1) n m)
-    ∙ ap (λ (at : ℕ). first ∷ (numbers_from (first + 1) n ++ numbers_from at m)) from)
+    ap (range_with_len first) count
+    ∙ (ap (λ rest. first ∷ rest) (range_with_len-append (first + 1) n m)
+    ∙ ap (λ (at : ℕ). first ∷ (range_with_len (first + 1) n ++ range_with_len at m)) from)
 
 -- as many places are told as there are entries
 told_length : (before after : List ℕ) (entries : Entries)
@@ -55,9 +56,9 @@ more_turns one two three before between after first next =
           ∙ (λ i. record one { own = append_assoc one.own xs ys i });
       amounts = map-append _ xs ys
           ∙ (λ i. first.amounts i ++ next.amounts i)
-          ∙ ap (λ (at : ℕ). numbers_from from (length xs) ++ numbers_from at (length ys)) told
-          ∙ sym (numbers_from-append from (length xs) (length ys))
-          ∙ ap (numbers_from from) (sym (length-append xs ys));
+          ∙ ap (λ (at : ℕ). range_with_len from (length xs) ++ range_with_len at (length ys)) told
+          ∙ sym (range_with_len-append from (length xs) (length ys))
+          ∙ ap (range_with_len from) (sym (length-append xs ys));
       places = next.places
           ∙ (ap (λ some. some ++ places_of ys) first.places
           ∙ (append_assoc before (places_of xs) (places_of ys)
@@ -82,7 +83,7 @@ knows_at turns (Some seat) (Some now) before after blank made none all =
     let from : length before ≡ 0 = ap (λ (some : List ℕ). length some) none in
     let count : length entries ≡ turns =
     (let told = told_length before after entries makes.places in omega arith) in record {
-      own = ap amounts_of own ∙ makes.amounts ∙ (λ i. numbers_from (from i) (count i));
+      own = ap amounts_of own ∙ makes.amounts ∙ (λ i. range_with_len (from i) (count i));
       joined = subst (λ joined. AllByRecursion (λ known. AreTurns turns known.1) joined)
           (sym (ap (λ seat. seat.joined) makes.seat ∙ blank.1)) tt;
       spare = ap (λ seat. seat.spare) makes.seat ∙ blank.2;
@@ -131,7 +132,8 @@ in_known turns number chain (x ∷ xs) recalls made stands = dite (ℕ_discrete 
     (λ other.
     let rest : ℕ = count_of number (map (λ (one : ℕ × Entries). one.0) xs) in
     let none : one_if (eqb x.0 number) ≡ 0 = ap one_if (ne_eqb x.0 number other) in
-    let some : 0 < one_if (eqb x.0 number) + rest = stands in
+    let all = sum_by-cons (λ (one : ℕ). one_if (eqb one number)) x.0 (map (λ (one : ℕ × Entries). one.0) xs) in
+    let some : 0 < one_if (eqb x.0 number) + rest = subst (λ (n : ℕ). 0 < n) all stands in
     in_known turns number chain xs recalls.1 made.1 (let more : 0 < rest = omega arith in more))
 
 -- each number of a seat that knows all its turns has made them

@@ -1,7 +1,7 @@
 -- Callers with their seats, before and after their turns.
 use Rattle.std.specs.Prelude.{◌≡◌, ℕ, ◌%◌, ◌^◌, ◌<◌, List, [], ◌∷◌, ◌++◌, map, length, slice_index_or, Option, None, Some, IsSomeAnd}
-use Rattle.std.specs.List.{AllByRecursion}
-use Rattle.turn_lock.specs.Lists.{total, count_of, numbers_from}
+use Rattle.std.specs.List.{AllByRecursion, range_with_len, sum_by}
+use Rattle.turn_lock.specs.Lists.{count_of}
 use Rattle.turn_lock.specs.Seats.{LockId, SeatView, numbers_of}
 use Rattle.shared_sum.specs.Summed.{amount_of}
 use Rattle.shared_sum.specs.declared.sum.Added.{Added}
@@ -18,7 +18,7 @@ numbers_at (Some seat) = numbers_of seat
 
 -- how often the callers have a number
 abbrev pub count_in : ℕ → List Caller → ℕ
-count_in number callers = total (λ caller. count_of number (numbers_at caller.seat)) callers
+count_in number callers = sum_by (λ caller. count_of number (numbers_at caller.seat)) callers
 
 -- the callers have all numbers of the lock
 abbrev pub HaveAllNumbers : LockId → List Caller → Type 0
@@ -54,7 +54,7 @@ places_of entries = map (λ known. known.0 % 2 ^ 64) entries
 pub record MakesTurns (old new : SeatView Added) (before after : List ℕ) : Type 0 where
   pub entries : List (ℕ × Added)
   pub seat : new ≡ record old { own = old.own ++ entries }
-  pub amounts : amounts_of entries ≡ numbers_from (length before) (length entries)
+  pub amounts : amounts_of entries ≡ range_with_len (length before) (length entries)
   pub places : after ≡ before ++ places_of entries
 
 -- a caller after its turns
@@ -85,7 +85,7 @@ IsNewCaller turns caller =
 
 -- the entries are those of so many turns, in their order
 abbrev pub AreTurns : ℕ → List (ℕ × Added) → Type 0
-AreTurns turns entries = amounts_of entries ≡ numbers_from 0 turns
+AreTurns turns entries = amounts_of entries ≡ range_with_len 0 turns
 
 -- a seat with no spare number, each of whose numbers made so many turns
 pub record KnowsTurns (turns : ℕ) (seat : SeatView Added) : Type 0 where

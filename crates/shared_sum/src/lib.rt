@@ -4,8 +4,6 @@
 mod callers;
 mod seats;
 mod sum;
-#[cfg(test)]
-mod tests;
 mod threads;
 
 pub use callers::{Caller, add};

@@ -9,9 +9,10 @@ use Rattle.atomic_table.proofs.Lists.{at_set, set_else}
 use Rattle.turn_lock.specs.declared.table.Content.{Content}
 use Rattle.turn_lock.specs.declared.table.SeatState.{SeatState}
 use Rattle.turn_lock.specs.declared.table.Stage.TheVariants.{Serving}
-use Rattle.turn_lock.specs.Lists.{total, count_of}
+use Rattle.std.specs.List.{sum_by}
+use Rattle.turn_lock.specs.Lists.{count_of}
 use Rattle.turn_lock.specs.Rule.{out, ticket, numbers, HaveOwnTickets, count_in, ShareNumbers, Homes, IsHome, IsAway, HoldsOf}
-use Rattle.turn_lock.proofs.Sums.{total-set_same, total-le}
+use Rattle.turn_lock.proofs.Sums.{sum_by-set_same, sum_by-le_each}
 use Rattle.turn_lock.proofs.Stages.{out-le-numbers}
 
 pub get-set_here : {A : Type 0} (xs : List A) (i : ℕ) (x y : A)
@@ -64,15 +65,15 @@ module _ {E : Type 0} (seats : List (SeatState E)) (id : ℕ) (was is : SeatStat
         → ShareNumbers callers seats
         → ShareNumbers callers (set seats id is)
     owners_stay callers same share number =
-        let kept = total-set_same (λ seat. count_of number (numbers seat)) seats id was is at
+        let kept = sum_by-set_same (λ seat. count_of number (numbers seat)) seats id was is at
         (ap (count_of number) same) in
         ((λ below. kept ∙ (share number).0 below), λ above. kept ∙ (share number).1 above)
 
     -- how many numbers there are, likewise
     pub many_stays : numbers is ≡ numbers was
-        → total (λ seat. length (numbers seat)) (set seats id is)
-        ≡ total (λ seat. length (numbers seat)) seats
-    many_stays same = total-set_same (λ seat. length (numbers seat)) seats id was is at
+        → sum_by (λ seat. length (numbers seat)) (set seats id is)
+        ≡ sum_by (λ seat. length (numbers seat)) seats
+    many_stays same = sum_by-set_same (λ seat. length (numbers seat)) seats id was is at
         (ap length same)
 
     -- the value is out with the seat that it was out with, where that one is still served
@@ -115,7 +116,7 @@ module _ {T E : Type 0} (caller_of : E → ℕ) (means : T → List E → Type 0
   -- fewer tickets are out than the words can tell apart
   pub drawn-lt : rule.drawn < length rule.entries + 2 ^ 64
   drawn-lt =
-      let out_of_numbers = total-le out (λ (seat : SeatState E). length (numbers seat)) s.views
+      let out_of_numbers = sum_by-le_each out (λ (seat : SeatState E). length (numbers seat)) s.views
       (λ j seat at. out-le-numbers seat (rule.seats j seat at).1) in
       let many = rule.many in
       let few = rule.few in

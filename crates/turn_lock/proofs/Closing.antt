@@ -12,7 +12,7 @@ use Rattle.turn_lock.specs.declared.table.SeatState.{SeatState}
 use Rattle.turn_lock.specs.declared.table.Stage.TheVariants.{Idle}
 use Rattle.turn_lock.specs.Lists.{count_of, entries_of}
 use Rattle.turn_lock.specs.Rule.{numbers, numbers_if, IsLive, IsHome, IsAway, HoldsOf, IsLeft}
-use Rattle.turn_lock.proofs.Sums.{parts-le-total}
+use Rattle.turn_lock.proofs.Sums.{parts-le-sum_by}
 use Rattle.turn_lock.proofs.Counts.{count_of-head}
 use Rattle.turn_lock.proofs.Stages.{idle_or_served}
 
@@ -32,7 +32,7 @@ module _ {T E : Type 0} (caller_of : E → ℕ) (means : T → List E → Type 0
         let once : count_of number (numbers other) ≡ 1 + count_of number rest =
         subst (λ (alive : Bool). count_of number (numbers_if alive other)
         ≡ 1 + count_of number rest) (sym alive) (count_of-head number rest) in
-        let both = parts-le-total (λ (one : SeatState E). count_of number (numbers one))
+        let both = parts-le-sum_by (λ (one : SeatState E). count_of number (numbers one))
         s.views j id other seat apart there at in
         dite (dec_le callers number)
         (λ above. let none = (rule.owners number).1 above in

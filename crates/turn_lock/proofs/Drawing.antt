@@ -8,7 +8,7 @@ use Rattle.turn_lock.specs.declared.table.SeatState.{SeatState}
 use Rattle.turn_lock.specs.declared.table.Stage.TheVariants.{Idle, Waiting}
 use Rattle.turn_lock.specs.Rule.{out, out_at, ticket, IsSeatOf, HoldsOf}
 use Rattle.turn_lock.specs.Steps.{at_stage, Holder, DrewTicket}
-use Rattle.turn_lock.proofs.Sums.{total-set}
+use Rattle.turn_lock.proofs.Sums.{sum_by-set_at}
 use Rattle.turn_lock.proofs.Stages.{idle_or_served, stage-drawn, ticket-lt-drawn, numbers-at_stage}
 use Rattle.turn_lock.proofs.Changes.{each_stays, apart_stays, owners_stay, many_stays, away_stays}
 
@@ -57,7 +57,7 @@ module _ {T E : Type 0} (caller_of : E → ℕ) (means : T → List E → Type 0
     drawn_rule : Rule after
     drawn_rule =
         let was_out : out me.0 ≡ 0 = ap out_at idle in
-        let outs = total-set out s.views id me.0 waiting at in
+        let outs = sum_by-set_at out s.views id me.0 waiting at in
         let tickets = rule.tickets in
         let same = numbers-at_stage me.0.live (Waiting rule.drawn) me.0 in record {
           entries = rule.entries;

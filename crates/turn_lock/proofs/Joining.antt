@@ -12,7 +12,7 @@ use Rattle.turn_lock.specs.declared.table.Stage.TheVariants.{Idle}
 use Rattle.turn_lock.specs.Lists.{count_of, entries_of}
 use Rattle.turn_lock.specs.Rule.{out, out_at, numbers, numbers_if, IsSeatOf, HaveOwnTickets, ShareNumbers, IsAway, HoldsOf}
 use Rattle.turn_lock.specs.Steps.{both_parts, spent_seat, Holder, CountedNumbers}
-use Rattle.turn_lock.proofs.Sums.{total-set, part-le-total}
+use Rattle.turn_lock.proofs.Sums.{sum_by-set_at, part-le-sum_by}
 use Rattle.turn_lock.proofs.Counts.{count_of-append, all-append}
 use Rattle.turn_lock.proofs.Stages.{idle_or_served}
 use Rattle.turn_lock.proofs.Changes.{each_stays, apart_stays, away_stays, count_in-le-one}
@@ -128,8 +128,8 @@ module _ {T E : Type 0} (caller_of : E → ℕ) (means : T → List E → Type 0
         let count : SeatState E → ℕ = λ one. count_of number (numbers one) in
         let sum : count both ≡ count seat + count other =
         measure-join (count_of number) (count_of-append number) seat other live other_live in
-        let first = total-set count s.views id seat both at in
-        let second = total-set count between away other spent_seat there in (
+        let first = sum_by-set_at count s.views id seat both at in
+        let second = sum_by-set_at count between away other spent_seat there in (
           (λ below. let one = (rule.owners number).0 below in omega arith),
           (λ above. let none = (rule.owners number).1 above in omega arith),
         )
@@ -139,12 +139,12 @@ module _ {T E : Type 0} (caller_of : E → ℕ) (means : T → List E → Type 0
         let size : SeatState E → ℕ = λ one. length (numbers one) in
         let sum : size both ≡ size seat + size other =
         measure-join length length-append seat other live other_live in
-        let first = total-set size s.views id seat both at in
-        let second = total-set size between away other spent_seat there in
+        let first = sum_by-set_at size s.views id seat both at in
+        let second = sum_by-set_at size between away other spent_seat there in
         let many = rule.many in
         let none_out : out other ≡ 0 = ap out_at idle in
-        let first_out = total-set out s.views id seat both at in
-        let second_out = total-set out between away other spent_seat there in
+        let first_out = sum_by-set_at out s.views id seat both at in
+        let second_out = sum_by-set_at out between away other spent_seat there in
         let tickets = rule.tickets in record {
           entries = rule.entries;
           drawn = rule.drawn;
@@ -185,7 +185,7 @@ module _ {T E : Type 0} (caller_of : E → ℕ) (means : T → List E → Type 0
       refl,
       λ number.
           let most = count_in-le-one caller_of means callers s rule number in
-          let mine = part-le-total (λ (seat : SeatState E). count_of number (numbers seat))
+          let mine = part-le-sum_by (λ (seat : SeatState E). count_of number (numbers seat))
           s.views id me.0 at in omega arith,
     ),
   )

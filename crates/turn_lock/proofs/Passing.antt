@@ -13,7 +13,7 @@ use Rattle.turn_lock.specs.declared.table.Stage.TheVariants.{Serving}
 use Rattle.turn_lock.specs.Lists.{count_of, entries_of}
 use Rattle.turn_lock.specs.Rule.{out, out_at, ticket, ticket_at, before_at, numbers, numbers_if, IsStageOf, IsSeatOf, HoldsOf}
 use Rattle.turn_lock.specs.Steps.{after_turn, Holder, PassedOn}
-use Rattle.turn_lock.proofs.Sums.{total-set, part-le-total, parts-le-total}
+use Rattle.turn_lock.proofs.Sums.{sum_by-set_at, part-le-sum_by, parts-le-sum_by}
 use Rattle.turn_lock.proofs.Counts.{count_of-append, count_of-head, absent_of, kept_without, numbers_kept_without, all-append}
 use Rattle.turn_lock.proofs.Entries.{entries_of-own, entries_of-other}
 use Rattle.turn_lock.proofs.Stages.{stage-passed, numbers-after_turn}
@@ -137,7 +137,7 @@ module _ {T E : Type 0} (caller_of : E → ℕ) (means : T → List E → Type 0
     others_lack j seat apart there =
         let once = own_once in
         let most = count_in-le-one caller_of means callers s rule (caller_of e) in
-        let both = parts-le-total (λ (seat : SeatState E). count_of (caller_of e) (numbers seat))
+        let both = parts-le-sum_by (λ (seat : SeatState E). count_of (caller_of e) (numbers seat))
         s.views j id seat me.0 apart there at in omega arith
 
     -- no other seat is served
@@ -154,7 +154,7 @@ module _ {T E : Type 0} (caller_of : E → ℕ) (means : T → List E → Type 0
     caller_within : caller_of e < callers
     caller_within =
         let once = own_once in
-        let mine = part-le-total (λ (seat : SeatState E). count_of (caller_of e) (numbers seat))
+        let mine = part-le-sum_by (λ (seat : SeatState E). count_of (caller_of e) (numbers seat))
         s.views id me.0 at in
         dite (dec_le callers (caller_of e))
         (λ above. let none = (rule.owners (caller_of e)).1 above in absurd (omega arith))
@@ -165,7 +165,7 @@ module _ {T E : Type 0} (caller_of : E → ℕ) (means : T → List E → Type 0
         let was = (rule.seats id me.0 at).0 may.live in
         let once = own_once in
         let most = count_in-le-one caller_of means callers s rule (caller_of e) in
-        let mine = part-le-total (λ (seat : SeatState E). count_of (caller_of e) (numbers seat))
+        let mine = part-le-sum_by (λ (seat : SeatState E). count_of (caller_of e) (numbers seat))
         s.views id me.0 at in
         let parts = count_of-append (caller_of e)
         (map (λ known. known.0) me.0.joined) me.0.spare in (
@@ -183,7 +183,7 @@ module _ {T E : Type 0} (caller_of : E → ℕ) (means : T → List E → Type 0
     passed_rule : Rule (stepped s 1 ((get_or s.words 1 0 + 1) % 2 ^ 64) id me.1 passed gives)
     passed_rule =
         let was_out : out me.0 ≡ 1 = ap out_at may.serving in
-        let outs = total-set out s.views id me.0 passed at in
+        let outs = sum_by-set_at out s.views id me.0 passed at in
         let tickets = rule.tickets in
         let long = length-append rule.entries (e ∷ []) in
         let same = numbers-after_turn me.0.live e me.0 in

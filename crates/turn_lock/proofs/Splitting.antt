@@ -10,7 +10,8 @@ use Rattle.turn_lock.specs.declared.table.SeatState.{SeatState}
 use Rattle.turn_lock.specs.Lists.{count_of, entries_of, head_or, tail}
 use Rattle.turn_lock.specs.Rule.{out, numbers, numbers_if, IsSeatOf, HaveOwnTickets, ShareNumbers, IsAway, HoldsOf}
 use Rattle.turn_lock.specs.Steps.{kept_part, given_part}
-use Rattle.turn_lock.proofs.Sums.{total-set, total-append}
+use Rattle.std.proofs.lemmas.List.Sums.{sum_by-append}
+use Rattle.turn_lock.proofs.Sums.{sum_by-set_at}
 use Rattle.turn_lock.proofs.Counts.{count_of-append}
 use Rattle.turn_lock.proofs.Changes.{each_stays, apart_stays, away_stays}
 
@@ -134,8 +135,8 @@ module _ {T E : Type 0} (caller_of : E → ℕ) (means : T → List E → Type 0
         let count : SeatState E → ℕ = λ other. count_of number (numbers other) in
         let both : count kept + count given ≡ count seat =
         measure-split (count_of number) (count_of-append number) seat first more live spare in
-        let all = total-append count others (given ∷ []) in
-        let changed = total-set count s.views id seat kept at in (
+        let all = sum_by-append count others (given ∷ []) in
+        let changed = sum_by-set_at count s.views id seat kept at in (
           (λ below. let one = (rule.owners number).0 below in omega arith),
           (λ above. let none = (rule.owners number).1 above in omega arith),
         )
@@ -149,11 +150,11 @@ module _ {T E : Type 0} (caller_of : E → ℕ) (means : T → List E → Type 0
         let size : SeatState E → ℕ = λ other. length (numbers other) in
         let both : size kept + size given ≡ size seat =
         measure-split length length-append seat first more live spare in
-        let sizes = total-append size others (given ∷ []) in
-        let resized = total-set size s.views id seat kept at in
+        let sizes = sum_by-append size others (given ∷ []) in
+        let resized = sum_by-set_at size s.views id seat kept at in
         let many = rule.many in
-        let outs = total-append out others (given ∷ []) in
-        let changed = total-set out s.views id seat kept at in
+        let outs = sum_by-append out others (given ∷ []) in
+        let changed = sum_by-set_at out s.views id seat kept at in
         let tickets = rule.tickets in record {
           entries = rule.entries;
           drawn = rule.drawn;

@@ -11,9 +11,12 @@ use Rattle.turn_lock.specs.declared.table.Content.{Content}
 use Rattle.turn_lock.specs.declared.table.SeatState.{SeatState}
 use Rattle.turn_lock.specs.declared.table.Stage.{Stage}
 use Rattle.turn_lock.specs.declared.table.Stage.TheVariants.{Waiting, Serving}
-use Rattle.turn_lock.specs.Rule.{out, out_at, ticket, ticket_at, IsStageOf, IsSeatOf, Homes, IsHome, IsAway, HoldsOf}
+use Rattle.std.specs.Prelude.{All, []}
+use Rattle.std.proofs.lemmas.List.Elements.{All-from_recursion}
+use Rattle.turn_lock.specs.Lists.{entries_of}
+use Rattle.turn_lock.specs.Rule.{out, out_at, ticket, ticket_at, IsStageOf, IsSeatOf, IsLive, IsKnown, Homes, IsHome, IsAway, HoldsOf}
 use Rattle.turn_lock.specs.Steps.{at_stage, Holder, LookedAtServing}
-use Rattle.turn_lock.proofs.Sums.{total-set_same}
+use Rattle.turn_lock.proofs.Sums.{sum_by-set_same}
 use Rattle.turn_lock.proofs.Stages.{waiting_or_served, numbers-at_stage}
 use Rattle.turn_lock.proofs.Changes.{get-set_here, each_stays, apart_stays, owners_stay, many_stays, drawn-lt}
 
@@ -88,6 +91,20 @@ module _ {T E : Type 0} (caller_of : E → ℕ) (means : T → List E → Type 0
             λ spent. absurd (true≢false (sym live ∙ spent)),
           )
 
+      -- what the seat knows of its numbers is their entries in the chain
+      known_here : IsKnown caller_of content.chain me.0
+      known_here =
+          let was : IsLive caller_of rule.entries rule.drawn me.0 = (rule.seats id me.0 at).0 live in
+          let entries = sym home.2 in record {
+            own = subst (λ (log : List E). entries_of caller_of me.0.caller log ≡ me.0.own) entries was.own;
+            joined = subst
+                (λ (log : List E). All (λ one. entries_of caller_of one.0 log ≡ one.1) me.0.joined)
+                entries (All-from_recursion _ me.0.joined was.joined);
+            spare = subst
+                (λ (log : List E). All (λ number. entries_of caller_of number log ≡ []) me.0.spare)
+                entries (All-from_recursion _ me.0.spare was.spare);
+          }
+
       taken_rule : Rule (stepped s 1 (get_or s.words 1 0) id me.1 serving (takes 0 (Some content)))
       taken_rule =
           let was_out : out me.0 ≡ 1 = ap out_at waits in
@@ -99,7 +116,7 @@ module _ {T E : Type 0} (caller_of : E → ℕ) (means : T → List E → Type 0
             few = rule.few;
             words_are = set-get_or s.words 1 0 ∙ rule.words_are;
             tickets = ap (λ (outs : ℕ). length rule.entries + outs)
-                (total-set_same out s.views id me.0 serving at (sym was_out)) ∙ rule.tickets;
+                (sum_by-set_same out s.views id me.0 serving at (sym was_out)) ∙ rule.tickets;
             seats = each_stays s.views id me.0 serving (IsSeatOf caller_of rule.entries rule.drawn)
                 serving_knows (λ j seat _ there. rule.seats j seat there);
             apart = apart_stays s.views id me.0 serving rule.apart
@@ -135,8 +152,9 @@ module _ {T E : Type 0} (caller_of : E → ℕ) (means : T → List E → Type 0
     one_ticket other is = ap (λ (n : ℕ). n % 2 ^ 64) (ap ticket_at (sym waits ∙ is))
 
   -- A waiting seat may look, and take the value where its ticket is served.
-  pub looks : (holds : T → List E → Type 0)
-      → ((value : T) (entries : List E) → means value entries → holds value entries)
+  pub looks : (holds : SeatState E → T → List E → Type 0)
+      → ((seat : SeatState E) (value : T) (entries : List E) → means value entries
+      → IsKnown caller_of entries seat → holds seat value entries)
       → (slots id : ℕ) (me : Holder T E) (number : ℕ)
       → me.0.live ≡ true
       → me.0.stage ≡ Waiting number
@@ -147,8 +165,9 @@ module _ {T E : Type 0} (caller_of : E → ℕ) (means : T → List E → Type 0
       let here = is_served me number live waits id s rule at found in
       let home = home me number live waits id s rule at here in
       let content : Content T E = home.0 in
-      let stands = so content.value content.chain
-      (subst (means content.value) (sym home.2) home.3) in (
+      let stands = so me.0 content.value content.chain
+      (subst (means content.value) (sym home.2) home.3)
+      (known_here me number live waits id s rule at here) in (
         serving me number live waits id s rule at here,
         takes 0 (Some content),
         ap (λ (homes : Homes T E). get_elem? homes 0) home.1,

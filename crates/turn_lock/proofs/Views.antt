@@ -3,9 +3,11 @@ use Rattle.std.proofs.Common.{◌≡◌, ℕ, zero, suc, ◌+◌, ◌-◌, ◌<�
 use Rattle.std.specs.Prelude.{All}
 use Rattle.std.specs.List.{AllByRecursion}
 use Rattle.std.proofs.lemmas.List.Elements.{All-from_recursion}
-use Rattle.turn_lock.specs.Lists.{count_of, numbers_from}
+use Rattle.std.specs.List.{range_with_len}
+use Rattle.turn_lock.specs.Lists.{count_of}
 use Rattle.turn_lock.specs.Seats.{LockId, SeatView, new_seat, first_seat, joined_seat, numbers_of, HasNumbersOf, HasEachNumber}
-use Rattle.turn_lock.proofs.Counts.{count_of-append, count_of-numbers_from, length-numbers_from}
+use Rattle.std.proofs.lemmas.List.FromFn.{length-range_with_len}
+use Rattle.turn_lock.proofs.Counts.{count_of-append, count_of-range_with_len}
 use Rattle.turn_lock.proofs.Joining.{measure-both}
 use Rattle.turn_lock.proofs.Splitting.{measure-given}
 
@@ -38,29 +40,29 @@ pub numbers_of-first_seat : (E : Type 0) (lock : LockId)
     → 0 < lock.callers → HasEachNumber (first_seat {E = E} lock)
 numbers_of-first_seat E lock some_callers number below =
     let more : suc (lock.callers - 1) ≡ lock.callers = omega arith in
-    let same = ap (λ (callers : ℕ). count_of number (numbers_from 0 callers)) more in
-    let range = (count_of-numbers_from 0 lock.callers number).inside (omega arith) (omega arith) in
+    let same = ap (λ (callers : ℕ). count_of number (range_with_len 0 callers)) more in
+    let range = (count_of-range_with_len 0 lock.callers number).inside (omega arith) (omega arith) in
     let once : count_of number (numbers_of (first_seat {E = E} lock)) ≡ 1 = same ∙ range in
     omega arith
 
 -- where there are spare numbers, the first is below the end
 pub spare-lt : (first end : ℕ) (spare : List ℕ)
-    → spare ≡ numbers_from first (end - first)
+    → spare ≡ range_with_len first (end - first)
     → 0 < length spare
     → first < end
 spare-lt first end spare is some_spare =
-    let size = ap length is ∙ length-numbers_from first (end - first) in omega arith
+    let size = ap length is ∙ length-range_with_len first (end - first) in omega arith
 
 numbers_from_above : (bound first more : ℕ)
     → bound < first
-    → AllByRecursion (λ number. bound < number) (numbers_from first more)
+    → AllByRecursion (λ number. bound < number) (range_with_len first more)
 numbers_from_above bound first zero above = tt
 numbers_from_above bound first (suc more) above =
     (above, numbers_from_above bound (first + 1) more (omega arith))
 
 -- the first spare number is the least
 pub numbers_from-least : (first more : ℕ)
-    → All (λ number. first < number) (numbers_from (first + 1) more)
+    → All (λ number. first < number) (range_with_len (first + 1) more)
 numbers_from-least first more =
-    All-from_recursion _ (numbers_from (first + 1) more)
+    All-from_recursion _ (range_with_len (first + 1) more)
     (numbers_from_above first (first + 1) more (omega arith))

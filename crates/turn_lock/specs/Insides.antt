@@ -2,7 +2,7 @@
 use Rattle.std.specs.Prelude.{◌≡◌, ℕ, ◌-◌, true, List, [], ◌∷◌, Option, None}
 use Rattle.atomic_table.specs.Seated.{TableId}
 use Rattle.atomic_table.specs.declared.shared.Seat.{Seat}
-use Rattle.turn_lock.specs.Lists.{numbers_from}
+use Rattle.std.specs.List.{range_with_len}
 use Rattle.turn_lock.specs.Seats.{SeatView}
 use Rattle.turn_lock.specs.declared.table.Content.{Content}
 use Rattle.turn_lock.specs.declared.table.SeatState.{SeatState}
@@ -28,7 +28,7 @@ module _ {T E : Type 0} where
   -- the numbers that the fields have are those of the place
   pub record HasNumbers (place : Place T E) (caller spare end : ℕ) : Type 0 where
     pub named : place.me.0.caller ≡ caller
-    pub spares : place.me.0.spare ≡ numbers_from spare (end - spare)
+    pub spares : place.me.0.spare ≡ range_with_len spare (end - spare)
 
   -- a seat with no ticket, and no slot
   pub record IsAtRest (place : Place T E) : Type 0 where

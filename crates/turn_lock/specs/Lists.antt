@@ -1,19 +1,9 @@
--- Sums and counts over lists, and the entries of one caller.
-use Rattle.std.specs.Prelude.{ℕ, zero, suc, ◌+◌, List, [], ◌∷◌, ◌++◌, ◌==◌, if◌then◌else◌}
-
--- f of each element, added up
-abbrev pub total : {A : Type 0} → (A → ℕ) → List A → ℕ
-total f [] = 0
-total f (x ∷ xs) = f x + total f xs
+-- How often a number stands in a list, and the entries of one caller.
+use Rattle.std.specs.Prelude.{ℕ, ◌+◌, List, [], ◌∷◌, ◌++◌, ◌==◌, count_by, if◌then◌else◌}
 
 -- how often a number stands in the list
 abbrev pub count_of : ℕ → List ℕ → ℕ
-count_of number numbers = total (λ other. if other == number then 1 else 0) numbers
-
--- so many numbers, from the first on
-abbrev pub numbers_from : ℕ → ℕ → List ℕ
-numbers_from first zero = []
-numbers_from first (suc more) = first ∷ numbers_from (first + 1) more
+count_of number numbers = count_by (λ other. other == number) numbers
 
 -- the first element, where there is one
 abbrev pub head_or : ℕ → List ℕ → ℕ

@@ -2,7 +2,8 @@
 use Rattle.std.specs.Prelude.{◌≡◌, ◌≢◌, ◌⊎◌, ℕ, ◌+◌, ◌%◌, ◌^◌, ◌<◌, ◌≤◌, Bool, true, false, List, [], ◌∷◌, ◌++◌, map, length, Option, Some, All}
 use Rattle.std.specs.List.{AllByRecursion}
 use Rattle.atomic_table.specs.Table.{State}
-use Rattle.turn_lock.specs.Lists.{total, count_of, entries_of}
+use Rattle.std.specs.List.{sum_by}
+use Rattle.turn_lock.specs.Lists.{count_of, entries_of}
 use Rattle.turn_lock.specs.declared.table.Content.{Content}
 use Rattle.turn_lock.specs.declared.table.SeatState.{SeatState}
 use Rattle.turn_lock.specs.declared.table.Stage.{Stage}
@@ -61,6 +62,12 @@ module _ {E : Type 0} where
     pub spare : AllByRecursion
         (λ number. entries_of caller_of number entries ≡ []) seat.spare
 
+  -- what the seat knows of its numbers is their entries among these
+  pub record IsKnown (caller_of : E → ℕ) (entries : List E) (seat : SeatState E) : Type 0 where
+    pub own : entries_of caller_of seat.caller entries ≡ seat.own
+    pub joined : All (λ known. entries_of caller_of known.0 entries ≡ known.1) seat.joined
+    pub spare : All (λ number. entries_of caller_of number entries ≡ []) seat.spare
+
   -- what holds of any seat
   abbrev pub IsSeatOf : (E → ℕ) → List E → ℕ → SeatState E → Type 0
   IsSeatOf caller_of entries drawn seat =
@@ -79,7 +86,7 @@ module _ {E : Type 0} where
 
   -- how often the seats have a number
   abbrev pub count_in : ℕ → List (SeatState E) → ℕ
-  count_in number seats = total (λ seat. count_of number (numbers seat)) seats
+  count_in number seats = sum_by (λ seat. count_of number (numbers seat)) seats
 
   -- each number below the bound belongs to one seat, and no other number to any
   abbrev pub ShareNumbers : ℕ → List (SeatState E) → Type 0
@@ -116,14 +123,14 @@ module _ {T E : Type 0} where
     pub drawn : ℕ
     pub few : callers < 2 ^ 32
     pub words_are : s.words ≡ drawn % 2 ^ 64 ∷ length entries % 2 ^ 64 ∷ []
-    pub tickets : length entries + total out s.views ≡ drawn
+    pub tickets : length entries + sum_by out s.views ≡ drawn
     pub seats : (j : ℕ) (seat : SeatState E)
         → get_elem? s.views j ≡ some seat → IsSeatOf caller_of entries drawn seat
     pub apart : HaveOwnTickets s.views
     pub slot : IsHome means entries s.homes ⊎ IsAway entries s.homes s.views
     pub owners : ShareNumbers callers s.views
     -- so no more tickets are out than there are callers
-    pub many : total (λ seat. length (numbers seat)) s.views ≡ callers
+    pub many : sum_by (λ seat. length (numbers seat)) s.views ≡ callers
     pub within : AllByRecursion (λ e. caller_of e < callers) entries
 
   -- what lies at home once all seats but this one are spent

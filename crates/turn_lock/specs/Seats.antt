@@ -1,7 +1,8 @@
 -- What contracts see of a lock, of a caller's seat, and of a seat that has the lock.
 use Rattle.std.specs.Prelude.{◌≡◌, ℕ, ◌+◌, ◌-◌, ◌<◌, List, [], ◌∷◌, ◌++◌, map, length, All}
 use Rattle.atomic_table.specs.Seated.{TableId}
-use Rattle.turn_lock.specs.Lists.{count_of, numbers_from, entries_of}
+use Rattle.std.specs.List.{range_with_len}
+use Rattle.turn_lock.specs.Lists.{count_of, entries_of}
 
 -- which lock it is, and for how many callers it was made
 pub record LockId : Type 0 where
@@ -37,7 +38,7 @@ module _ {E : Type 0} where
 
   -- the seat of a new lock: the number 0, and all others to be given away
   abbrev pub first_seat : LockId → SeatView E
-  first_seat lock = new_seat lock 0 (numbers_from 1 (lock.callers - 1))
+  first_seat lock = new_seat lock 0 (range_with_len 1 (lock.callers - 1))
 
   -- the seat that keeps what the other knew and had
   abbrev pub joined_seat : SeatView E → SeatView E → SeatView E

@@ -1,7 +1,8 @@
 -- What each step on the table tells the seat that makes it.
 use Rattle.std.specs.Prelude.{◌≡◌, ◌≢◌, ℕ, ◌-◌, ◌%◌, ◌^◌, ◌≤◌, true, false, List, [], ◌∷◌, ◌++◌, length, Option, Some}
 use Rattle.atomic_table.specs.Table.{Me, Step}
-use Rattle.turn_lock.specs.Lists.{count_of, numbers_from, head_or, tail}
+use Rattle.std.specs.List.{range_with_len}
+use Rattle.turn_lock.specs.Lists.{count_of, head_or, tail}
 use Rattle.turn_lock.specs.Rule.{before_at, numbers}
 use Rattle.turn_lock.specs.declared.table.Content.{Content}
 use Rattle.turn_lock.specs.declared.table.SeatState.{SeatState}
@@ -17,7 +18,7 @@ module _ {E : Type 0} where
     caller = 0;
     own = [];
     joined = [];
-    spare = numbers_from 1 (callers - 1);
+    spare = range_with_len 1 (callers - 1);
   }
 
   -- what is left of a seat that another joined
@@ -77,14 +78,14 @@ module _ {T E : Type 0} where
       × (drawn % 2 ^ 64 ≡ found)
       × (after ≡ (at_stage (Waiting drawn) before.0, before.1))
 
-  -- the seat took the slot, whose value stands with its chain
-  abbrev pub TookContent : (T → List E → Type 0) → Holder T E → Holder T E → Type 0
+  -- the seat took the slot, whose value and chain mean something to it
+  abbrev pub TookContent : (SeatState E → T → List E → Type 0) → Holder T E → Holder T E → Type 0
   TookContent means before after = (content : Content T E)
       × (after ≡ (at_stage (Serving content.chain) before.0, (0, Some content) ∷ before.1))
-      × means content.value content.chain
+      × means before.0 content.value content.chain
 
   -- a waiting seat that finds its ticket served has the value, and else is as it was
-  abbrev pub LookedAtServing : (T → List E → Type 0)
+  abbrev pub LookedAtServing : (SeatState E → T → List E → Type 0)
       → StepOf T E → Holder T E → ℕ → Holder T E → Type 0
   LookedAtServing means step before found after = (ticket : ℕ)
       → before.0.stage ≡ Waiting ticket

@@ -11,8 +11,9 @@ mod table;
 mod tale;
 mod turn;
 
+pub use ct_bytes::NoMemory;
 pub use held::{Held, HeldOf};
-pub use link_chain::{Chain, Link, NoMemory};
+pub use link_chain::{Chain, Link};
 pub use lock::Turnstile;
 pub use seat::{Receipt, Seat, SeatOf};
 pub use tale::Tale;

@@ -11,7 +11,8 @@ use crate::table::{Content, LockTable, MadeWith, Place};
 use crate::tale::Tale;
 use crate::turn::{pass_on, wait};
 use atomic_table::{Refused, Table};
-use link_chain::{Chain, Link, NoMemory};
+use ct_bytes::NoMemory;
+use link_chain::{Chain, Link};
 use std::alloc::Global;
 use std::marker::{Brand, Model};
 use std::snapshot::Snapshot;
@@ -157,6 +158,8 @@ impl<T: Tale> Turnstile<T> {
         ensures seat { result.seat ≡ seat }
         ensures entry { result.entry ≡ link }
         ensures stands { T.stands self.now.first result.value result.before }
+        // So what the seat knows of each of its numbers is that number's entries so far.
+        ensures entries { Recalls T.caller result.before seat }
     {
         let SeatOf {
             mut place,

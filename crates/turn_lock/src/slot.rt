@@ -7,7 +7,8 @@ ghost use Rattle.turn_lock.specs.Slots.{blank, HasBlank, IsBlank};
 
 use crate::table::{Content, LockTable, Place};
 use crate::tale::Tale;
-use link_chain::{Chain, NoMemory};
+use ct_bytes::NoMemory;
+use link_chain::Chain;
 use std::alloc::Global;
 
 // The slot with the value, and a chain with no entry.

@@ -6,14 +6,16 @@ use crate::table::{Content, SeatState};
 use atomic_table::{Join, Play, Split};
 use std::marker::{Brand, PhantomData};
 
-/// What a value under the lock is to the entries so far.
+/// What a value under the lock is to the entries so far, and to the seat that takes it.
 pub(crate) trait Meaning<T, E> {
-    ghost holds: { T → List E → Type 0 };
+    ghost use Rattle.turn_lock.specs.declared.table.SeatState.{SeatState};
+
+    ghost holds: { SeatState E → T → List E → Type 0 };
 }
 
 // A call at `Brand` picks the meaning that its lock has.
 impl<T, E> Meaning<T, E> for Brand {
-    ghost holds = { λ _ _. Unit {0} };
+    ghost holds = { λ _ _ _. Unit {0} };
 }
 
 pub(crate) struct DrawTicket;

@@ -1,6 +1,8 @@
 //! A turn: the wait for one's ticket, and the passing on.
 ghost use Rattle.std.specs.Prelude.{◌≡◌, ◌%◌, ◌^◌, List, [], ◌∷◌, ◌++◌, length, None};
 ghost use Rattle.turn_lock.specs.Insides.{HasLock};
+ghost use Rattle.turn_lock.specs.Rule.{IsKnown};
+ghost use Rattle.turn_lock.specs.declared.table.SeatState.{SeatState};
 ghost use Rattle.turn_lock.specs.Steps.{at_stage, after_turn, IsWaiting};
 ghost use Rattle.turn_lock.specs.declared.table.Stage.TheVariants.{Serving};
 
@@ -21,12 +23,13 @@ pub(crate) fn wait<T: Tale, R: Wait, M: Meaning<T, T::Entry>>(
         × (table.now.table_id.words ≡ 2)
         × (table.now.table_id.slots ≡ 1) }
     requires waits { IsWaiting place.old.me ticket }
-    requires meaning { (value : T) (entries : List T.Entry)
+    requires meaning { (seat : SeatState T.Entry) (value : T) (entries : List T.Entry)
         → T.stands table.now.key.value.value value entries
-        → M.holds value entries }
+        → IsKnown T.caller entries seat
+        → M.holds seat value entries }
     ensures taken { (place.new.table_id ≡ place.old.table_id)
         × (place.new.me ≡ (at_stage (Serving result.chain) place.old.me.0, (0, None) ∷ [])) }
-    ensures holds { M.holds result.value result.chain }
+    ensures holds { M.holds place.old.me.0 result.value result.chain }
 {
     for _ in rt.forever() {
         let serving = table.load::<LookAtServing<M>>(place, 1);

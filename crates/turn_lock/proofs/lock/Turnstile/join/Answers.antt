@@ -1,7 +1,8 @@
 -- The seat has the numbers of both, and none of them twice.
 use Rattle.std.proofs.Common.{rules, ◌≡◌, ℕ, ◌-◌, ◌≤◌, ◌++◌, List, sym, ap, ◌∙◌, subst}
 use Rattle.turn_lock.specs.Insides.{view_of}
-use Rattle.turn_lock.specs.Lists.{count_of, numbers_from}
+use Rattle.std.specs.List.{range_with_len}
+use Rattle.turn_lock.specs.Lists.{count_of}
 use Rattle.turn_lock.specs.Seats.{joined_seat, HasNumbersOf}
 use Rattle.turn_lock.proofs.Joining.{joins, counts, spare_once}
 use Rattle.turn_lock.proofs.Views.{numbers_of-joined_seat}
@@ -25,8 +26,8 @@ pub spare_of_both-requires : goal.spare_of_both-requires
 spare_of_both-requires g c =
     let me = c.join_seat.ensures.2 in
     let both : c.join_seat.new.seat.me.0.spare
-    ≡ numbers_from c.seat.inside.spare (c.seat.inside.end - c.seat.inside.spare)
-    ++ numbers_from c.other.inside.spare (c.seat.inside.end - c.other.inside.spare) =
+    ≡ range_with_len c.seat.inside.spare (c.seat.inside.end - c.seat.inside.spare)
+    ++ range_with_len c.other.inside.spare (c.seat.inside.end - c.other.inside.spare) =
     search rules in
     let once = spare_once c.join_seat.new.seat.me.0
     (ap (λ me. me.0.live) me ∙ c.seat.invariant.0.live) c.load.ensures.2.1 in

@@ -3,11 +3,11 @@ use Rattle.std.proofs.Common.{rules, arith, ◌-◌, ap, ◌∙◌, length, ◌�
 use Rattle.atomic_table.specs.Table.{opening}
 use Rattle.turn_lock.specs.declared.table.Content.{Content}
 use Rattle.turn_lock.specs.Insides.{seat_at}
-use Rattle.turn_lock.specs.Lists.{numbers_from}
+use Rattle.std.specs.List.{range_with_len}
 use Rattle.turn_lock.specs.Rule.{HoldsOf}
 use Rattle.turn_lock.specs.Seats.{first_seat, HasEachNumber}
 use Rattle.turn_lock.specs.Steps.{opening_seat}
-use Rattle.turn_lock.proofs.Counts.{length-numbers_from}
+use Rattle.std.proofs.lemmas.List.FromFn.{length-range_with_len}
 use Rattle.turn_lock.proofs.Opening.{opens}
 use Rattle.turn_lock.proofs.Views.{numbers_of-first_seat}
 use Rattle.turn_lock.proofs.lock.Turnstile.new.Goals as goal
@@ -26,8 +26,8 @@ new-made-requires g c =
 
 pub returns-in-Ok-clause-spare : goal.returns-in-Ok-clause-spare
 returns-in-Ok-clause-spare g c =
-    let is : c.in-Ok.place.me.0.spare ≡ numbers_from 1 (c.args.callers - 1) = search rules in
-    let size = ap length is ∙ length-numbers_from 1 (c.args.callers - 1) in
+    let is : c.in-Ok.place.me.0.spare ≡ range_with_len 1 (c.args.callers - 1) = search rules in
+    let size = ap length is ∙ length-range_with_len 1 (c.args.callers - 1) in
     let some_callers = c.requires.some in omega arith
 
 pub returns-in-Ok-clause-numbers : goal.returns-in-Ok-clause-numbers

@@ -3,7 +3,7 @@ use Rattle.std.proofs.Common.{rules, ◌≡◌, ◌+◌, ◌-◌, ◌<◌, sym, 
 use Rattle.std.specs.Prelude.{All}
 use Rattle.turn_lock.specs.Insides.{seat_at}
 use Rattle.turn_lock.specs.Lists.{tail}
-use Rattle.turn_lock.proofs.Counts.{numbers_from-cons}
+use Rattle.turn_lock.proofs.Counts.{range_with_len-cons}
 use Rattle.turn_lock.proofs.Splitting.{splits}
 use Rattle.turn_lock.proofs.Views.{numbers_of-split, spare-lt, numbers_from-least}
 use Rattle.turn_lock.proofs.lock.Turnstile.split.Goals as goal
@@ -16,7 +16,7 @@ split_seat-requires g c =
       search rules,
       search rules,
       splits g.T.Tale.caller _ _ _ _ _ _ c.seat.invariant.0.live
-          (spares ∙ numbers_from-cons c.seat.inside.spare c.seat.inside.end first),
+          (spares ∙ range_with_len-cons c.seat.inside.spare c.seat.inside.end first),
     )
 
 -- its other spare numbers are those from the next on
@@ -27,7 +27,7 @@ invariant_of-kept g c =
     let has = c.seat.invariant.1 in
     let some_spare = subst (λ seat. 0 < length seat.spare) (sym c.seat.view_is) c.requires.spare in
     let first = spare-lt _ _ _ has.spares some_spare in
-    let spare = has.spares ∙ numbers_from-cons c.seat.inside.spare c.seat.inside.end first in (
+    let spare = has.spares ∙ range_with_len-cons c.seat.inside.spare c.seat.inside.end first in (
       record {
         live = ap (λ me. me.0.live) me ∙ rests.live;
         idle = ap (λ me. me.0.stage) me ∙ rests.idle;

@@ -1,6 +1,5 @@
 //! What no contract says.
-use crate::chain::Chain;
-use crate::link::Link;
+use link_chain::{Chain, Link};
 use std::test::Fail;
 
 #[test]

@@ -1,7 +1,6 @@
 //! Labels and roots, against values that another program computed.
 
-use crate::label::Label;
-use crate::path::{Aux, Hash, empty_roots, root_of};
+use pw_path::{Aux, Hash, Label, empty_roots, root_of};
 
 // Where a label is there its root is computed; a number that is no label gives zero bytes.
 fn root_at(number: u16, leaf: &Hash, aux: &Aux) -> Hash {

@@ -1,6 +1,6 @@
 //! The standards' vectors, by the program itself.
 
-use crate::{Aes128, Aes192, Aes256};
+use aes_core::{Aes128, Aes192, Aes256};
 
 // The keys of SP 800-38A, F.5, as numbers of 16 bytes, and its first counter block and text.
 const KEY_128: u128 = 0x2b7e151628aed2a6abf7158809cf4f3c;

@@ -3,7 +3,7 @@
 
 ghost use Rattle.std.specs.Prelude.{◌*◌, ◌≤◌};
 
-use crate::{
+use gcm_seal::{
     BadTag, HashKey, KeySize, open_in_place, product, seal_and_open, seal_in_place, tag_with,
 };
 

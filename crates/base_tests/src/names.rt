@@ -1,6 +1,6 @@
 //! The grammar of account names at its edges.
 
-use crate::is_account_name;
+use home_names::is_account_name;
 
 #[test]
 fn account_names_are_short_and_plain(rt: HostRuntime) {

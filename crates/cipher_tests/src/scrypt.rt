@@ -1,6 +1,6 @@
 //! Published vectors and refusals, by the program itself.
 
-use crate::{Params, ScryptFault, derive, scrypt};
+use scrypt_kdf::{Params, ScryptFault, derive, scrypt};
 
 // RFC 7914, section 12: the first three vectors.
 #[test]

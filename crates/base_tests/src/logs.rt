@@ -1,8 +1,6 @@
 //! What the log answers in each case.
 
-use crate::answer::LogAnswer;
-use crate::entries::Log;
-use crate::entry::{INSERT, LogEntry, NO_VERDICT, TRY, WRONG};
+use pw_log::{INSERT, Log, LogAnswer, LogEntry, NO_VERDICT, TRY, WRONG};
 use pw_path::Hash;
 use pw_types::Stamp;
 

@@ -1,6 +1,6 @@
 //! Published vectors, by the program itself.
 
-use crate::{Mac, mac, pbkdf2_one};
+use hmac_sha::{Mac, mac, pbkdf2_one};
 
 // RFC 4231, cases 1, 2, 3, 6 and 7.
 #[test]

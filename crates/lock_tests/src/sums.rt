@@ -1,7 +1,5 @@
 //! What no contract says.
-use crate::callers::Caller;
-use crate::sum::Sum;
-use crate::threads::{add_on_threads, closed, lock_after_turns};
+use shared_sum::{Caller, Sum, add_on_threads, closed, lock_after_turns};
 use std::alloc::Global;
 use std::test::Fail;
 

@@ -1,8 +1,6 @@
 //! Schedules that are refused, and the default one around each of its edges.
 
-use crate::delay::{Readiness, ready};
-use crate::schedule::{LOCKED, Schedule, ScheduleFault};
-use crate::stamp::Stamp;
+use pw_types::{LAST_MOMENT, LOCKED, Readiness, Schedule, ScheduleFault, Stamp, cut_moment, ready};
 
 #[test]
 fn a_list_that_is_no_schedule_is_refused_at_its_first_bad_pair(rt: HostRuntime) {
@@ -96,5 +94,18 @@ fn the_default_schedule_waits_at_each_of_its_edges(rt: HostRuntime) {
             want,
             "{wrong} wrong tries at {at}"
         );
+    }
+}
+
+#[test]
+fn a_number_past_the_last_moment_is_cut(rt: HostRuntime) {
+    assert_eq!(rt; LAST_MOMENT, 1_099_511_627_775);
+    for (number, moment) in [
+        (0, 0),
+        (1_099_511_627_775, 1_099_511_627_775),
+        (1_099_511_627_776, 1_099_511_627_775),
+        (u64::MAX, 1_099_511_627_775),
+    ] {
+        assert_eq!(rt; cut_moment(number), moment, "at {number}");
     }
 }
