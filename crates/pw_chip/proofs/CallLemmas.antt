@@ -1,5 +1,5 @@
 -- Each call keeps what holds, and its reply is lawful.
-use Rattle.std.proofs.Common.{◌≡◌, ℕ, ◌<◌, ◌^◌, inl, inr, true, false, eqb, ltb, ◌&&◌, Option, Some, None, Ok, List, length, refl, sym, ◌∙◌, ap, subst, arith}
+use Rattle.std.proofs.Common.{◌≡◌, ℕ, ◌<◌, ◌^◌, inl, inr, Bool, true, false, cond, eqb, ltb, ◌&&◌, Option, Some, None, Ok, List, length, refl, sym, ◌∙◌, ap, subst, arith}
 use Rattle.std.specs.Prelude.{bytes_eq, option_map}
 use Rattle.std.proofs.lemmas.Bool.{cases_eq, eqb-true, ltb-true, ne_eqb, false≢true}
 use Rattle.std.proofs.lemmas.Slice.Eq.{bytes_eq-Decides}
@@ -12,6 +12,7 @@ use Rattle.pw_types.specs.declared.stamp.Stamp.{Stamp}
 use Rattle.pw_types.specs.declared.delay.Readiness.{Readiness}
 use Rattle.pw_types.specs.declared.delay.Readiness.TheVariants as delay
 use Rattle.pw_types.proofs.DelayLemmas.{below_limit}
+use Rattle.pw_chip.specs.Told.{told}
 use Rattle.pw_log.specs.declared.entry.LogEntry.{LogEntry}
 use Rattle.pw_log.specs.declared.entry.TheConstants.{RESET_TREE, INSERT, REMOVE, TRY, RESET, NO_VERDICT, RIGHT, WRONG}
 use Rattle.pw_leaf.specs.declared.keys.ChipKeys.{ChipKeys}
@@ -19,6 +20,7 @@ use Rattle.pw_leaf.specs.Contents.{Contents, IsContents, new_contents, bumped, c
 use Rattle.pw_leaf.specs.LeafBytes.{leaf_bytes, leaf_mac}
 use Rattle.pw_leaf.specs.Reading.{mac_of, text_of}
 use Rattle.pw_leaf.proofs.Cases.{on_cond, on_result}
+use Rattle.pw_leaf.proofs.ChangeLemmas.{IsContents-bumped, IsContents-cleared}
 use Rattle.pw_chip.specs.declared.reply.Reply.{Reply}
 use Rattle.pw_chip.specs.declared.reply.Reply.TheVariants.{Done, Inserted, Released, Cleared, Wrong, Delayed, Locked, ResetWrong, RootUnknown, LabelUsed, LabelEmpty}
 use Rattle.pw_chip.specs.State.{ChipState, empty_root}
@@ -32,49 +34,22 @@ use Rattle.pw_chip.proofs.KeptLemmas.{Holds, Redone, kept_logged, logged_keys, c
 
 -- ---- the tree after a change
 
+-- the other labels keep their values
 agree_with : (keys : ChipKeys) (t : ℕ → Option Contents) (label : ℕ) (o : Option Contents) → AgreeBut label (values keys t) (values keys (with_leaf t label o))
 unfolding AgreeBut
 agree_with keys t label o = λ j ne. ap (value_of keys) (set_value_other t label o j ne)
 
-new_root : (keys : ChipKeys) (t : ℕ → Option Contents) (label : ℕ) (o : Option Contents) (aux : List (List (List ℕ))) → label < 16384 → aux ≡ aux_of (values keys t) label
+-- the root of a leaf that is set, with its siblings as they were
+pub new_root : (keys : ChipKeys) (t : ℕ → Option Contents) (label : ℕ) (o : Option Contents) (aux : List (List (List ℕ))) → label < 16384 → aux ≡ aux_of (values keys t) label
     → root_of label (value_of keys o) aux ≡ root (values keys (with_leaf t label o))
 new_root keys t label o aux lt e =
     ap (root_of label (value_of keys o)) e
     ∙ root_of_changed (values keys t) (values keys (with_leaf t label o)) label (value_of keys o) lt (agree_with keys t label o) (ap (value_of keys) (set_value_same t label o))
 
--- ---- leaves that stay leaves
-
-leaf_cleared : (x : Contents) → IsContents x → IsContents (cleared x)
-leaf_cleared x h = record {
-  label = h.label;
-  schedule = h.schedule;
-  wrong = omega arith;
-  boot = omega arith;
-  moment = omega arith;
-  fresh = λ _. (refl, refl);
-  les = h.les;
-  hes = h.hes;
-  reset = h.reset;
-  iv = h.iv;
-}
-
-leaf_bumped : (x : Contents) (now : Stamp) → IsContents x → now.boot < 2 ^ 64 → now.at < 2 ^ 40 → x.wrong < limit_of x.schedule → IsContents (bumped now x)
-leaf_bumped x now h b a m = record {
-  label = h.label;
-  schedule = h.schedule;
-  wrong = omega arith;
-  boot = b;
-  moment = a;
-  fresh = λ e. absurd (omega arith);
-  les = h.les;
-  hes = h.hes;
-  reset = h.reset;
-  iv = h.iv;
-}
-
 -- ---- cases of an answer
 
-on_tried_when : (P : Reply → Type 0) (r : Readiness) (keys : ChipKeys) (x : Contents) (les : List ℕ) (now : Stamp) (start : ℕ) → readiness x.schedule x.wrong x.last now start ≡ r
+-- a claim of each answer to a try that may come then
+pub on_tried_when : (P : Reply → Type 0) (r : Readiness) (keys : ChipKeys) (x : Contents) (les : List ℕ) (now : Stamp) (start : ℕ) → readiness x.schedule x.wrong x.last now start ≡ r
     → P (Released (leaf_bytes keys (cleared x)) x.hes)
     → (readiness x.schedule x.wrong x.last now start ≡ delay.Ready → P (Wrong (leaf_bytes keys (bumped now x))))
     → ((u : ℕ) → P (Delayed u)) → P Locked → P (tried_when r keys x les now)
@@ -83,14 +58,16 @@ on_tried_when P delay.Ready keys x les now start e f g d l =
 on_tried_when P (delay.Delayed u) keys x les now start e f g d l = d u
 on_tried_when P delay.Locked keys x les now start e f g d l = l
 
-on_tried : (P : Reply → Type 0) (keys : ChipKeys) (x : Contents) (les : List ℕ) (now : Stamp) (start : ℕ)
+-- a claim of each answer to a try
+pub on_tried : (P : Reply → Type 0) (keys : ChipKeys) (x : Contents) (les : List ℕ) (now : Stamp) (start : ℕ)
     → P (Released (leaf_bytes keys (cleared x)) x.hes)
     → (readiness x.schedule x.wrong x.last now start ≡ delay.Ready → P (Wrong (leaf_bytes keys (bumped now x))))
     → ((u : ℕ) → P (Delayed u)) → P Locked → P (tried keys x les now start)
 unfolding tried
 on_tried P keys x les now start f g d l = on_tried_when P (readiness x.schedule x.wrong x.last now start) keys x les now start refl f g d l
 
-on_reset : (P : Reply → Type 0) (keys : ChipKeys) (x : Contents) (reset : List ℕ) → P (Cleared (leaf_bytes keys (cleared x))) → P ResetWrong → P (reset_at keys x reset)
+-- a claim of each answer to a reset
+pub on_reset : (P : Reply → Type 0) (keys : ChipKeys) (x : Contents) (reset : List ℕ) → P (Cleared (leaf_bytes keys (cleared x))) → P ResetWrong → P (reset_at keys x reset)
 unfolding reset_at
 on_reset P keys x reset f g = on_cond P (bytes_eq x.reset reset) (Cleared (leaf_bytes keys (cleared x))) ResetWrong (λ _. f) (λ _. g)
 
@@ -98,20 +75,30 @@ on_reset P keys x reset f g = on_cond P (bytes_eq x.reset reset) (Cleared (leaf_
 of_label : (label l : ℕ) → true && eqb label l ≡ true → label ≡ l
 of_label label l e = eqb-true label l e
 
+-- the value of a choice
+value_cond : (keys : ChipKeys) (b : Bool) (o p : Option Contents) → value_of keys (cond b o p) ≡ cond b (value_of keys o) (value_of keys p)
+value_cond keys true o p = refl
+value_cond keys false o p = refl
+
+-- the values with one leaf set
+value_with : (keys : ChipKeys) (t : ℕ → Option Contents) (label : ℕ) (o : Option Contents) (i : ℕ) → values keys (with_leaf t label o) i ≡ cond (eqb i label) (value_of keys o) (values keys t i)
+value_with keys t label o i = value_cond keys (eqb i label) o (t i)
+
 module _ (N M : List ℕ → Type 0) (apart : HasNoCollision N) (b s : ℕ) where
   -- a changed leaf keeps what holds
   changed : (w : ChipState) (t : ℕ → Option Contents) (label : ℕ) (o : Option Contents) (aux : List (List (List ℕ))) (e : LogEntry) → Holds N M b s w t → label < 16384 → aux ≡ aux_of (values w.keys t) label
       → e.root ≡ root_of label (value_of w.keys o) aux → ((x : Contents) → o ≡ Some x → IsContents x × (x.label ≡ label))
       → ((l : ℕ) → is_replayed e l ≡ true → Redone e l t (with_leaf t label o))
+      → ((i : ℕ) → values w.keys (with_leaf t label o) i ≡ told e (values w.keys t) i)
       → ((a : List ℕ) → OnTree (values (logged w e).keys (with_leaf t label o)) a → N a) → ((a : List ℕ) → InLeaves (logged w e).keys (with_leaf t label o) a → M a)
       → Holds N M b s (logged w e) (with_leaf t label o)
-  changed w t label o aux e h lt ea er known redone nodes macs =
+  changed w t label o aux e h lt ea er known redone tells nodes macs =
       let same : (logged w e).keys ≡ w.keys = logged_keys N M apart b s w e in
       kept_logged N M apart b s w t (with_leaf t label o) e h
       (covered_with N M apart b s w.keys t label o h.covered known
       (subst (λ ks. (a : List ℕ) → OnTree (values ks (with_leaf t label o)) a → N a) same nodes)
       (subst (λ ks. (a : List ℕ) → InLeaves ks (with_leaf t label o) a → M a) same macs))
-      (er ∙ new_root w.keys t label o aux lt ea) redone
+      (er ∙ new_root w.keys t label o aux lt ea) redone tells
 
   -- what a step leaves
   unfoldable pub Keeps : ChipState → (ℕ → Option Contents) → CallData → ℕ → Reply × ChipState → Type 0
@@ -157,7 +144,7 @@ module _ (N M : List ℕ → Type 0) (apart : HasNoCollision N) (b s : ℕ) wher
         },
         refl,
       ))
-      (λ l q. absurd (false≢true q)) nodes macs)
+      (λ l q. absurd (false≢true q)) (value_with w.keys t label (Some y)) nodes macs)
       (λ _ nodes macs. h))
       (λ _ nodes macs. h))
       (λ _ nodes macs. h)
@@ -176,7 +163,7 @@ module _ (N M : List ℕ → Type 0) (apart : HasNoCollision N) (b s : ℕ) wher
       (λ used nodes macs.
       let lt = ltb-true label 16384 small in
       let p = true_path w t label aux mac h lt ok.0 ok.1 path ((bytes_eq-Decides (root_of label mac aux) w.log.newest.root).0 in_tree) in
-      changed w t label None aux e h lt p.1 refl (λ x q. cc q) (λ l q. absurd (false≢true q)) nodes macs))
+      changed w t label None aux e h lt p.1 refl (λ x q. cc q) (λ l q. absurd (false≢true q)) (value_with w.keys t label None) nodes macs))
       (λ _ nodes macs. h))
       (λ _ nodes macs. h)
 
@@ -185,14 +172,16 @@ module _ (N M : List ℕ → Type 0) (apart : HasNoCollision N) (b s : ℕ) wher
   changed_leaf : (w : ChipState) (t : ℕ → Option Contents) (label : ℕ) (aux : List (List (List ℕ))) (leaf : List ℕ) (x : Contents) (f : Contents → Contents) (e : LogEntry)
       → Holds N M b s w t → Genuine w.keys t label aux leaf x → e.root ≡ root_of label (leaf_mac w.keys (f x)) aux → IsContents (f x) → (f x).label ≡ x.label
       → ((l : ℕ) → is_replayed e l ≡ true → label ≡ l) → f x ≡ redone_by e.verdict e.stamp x → is_full e.verdict x ≡ false
+      → ((v : ℕ → List ℕ) (i : ℕ) → told e v i ≡ cond (eqb i label) (leaf_mac w.keys (f x)) (v i))
       → ((a : List ℕ) → OnTree (values (logged w e).keys (with_leaf t label (option_map f (t label)))) a → N a) → ((a : List ℕ) → InLeaves (logged w e).keys (with_leaf t label (option_map f (t label))) a → M a)
       → Holds N M b s (logged w e) (with_leaf t label (option_map f (t label)))
-  changed_leaf w t label aux leaf x f e h g er good l of_e fx room nodes macs =
+  changed_leaf w t label aux leaf x f e h g er good l of_e fx room tells nodes macs =
       let there : option_map f (t label) ≡ Some (f x) = ap (option_map f) g.stands in
       changed w t label (option_map f (t label)) aux e h g.small g.true_aux (er ∙ ap (λ o. root_of label (value_of w.keys o) aux) (sym there))
       (λ y q. let same : f x ≡ y = cc (sym there ∙ q) in subst (λ z. IsContents z × (z.label ≡ label)) same (good, l ∙ Covered.label (Holds.covered h) label x g.stands))
       (λ m q. subst (λ i. Redone e i t (with_leaf t label (option_map f (t label)))) (of_e m q)
       (record { leaf = x; was = g.stands; others = λ i ne. set_value_other t label (option_map f (t label)) i ne; is = set_value_same t label (option_map f (t label)) ∙ there ∙ ap Some fx; room = room }))
+      (λ i. value_with w.keys t label (option_map f (t label)) i ∙ ap (λ o. cond (eqb i label) (value_of w.keys o) (values w.keys t i)) there ∙ sym (tells (values w.keys t) i))
       nodes macs
 
   -- ---- try
@@ -214,11 +203,11 @@ module _ (N M : List ℕ → Type 0) (apart : HasNoCollision N) (b s : ℕ) wher
       let g = try_genuine w t label aux leaf x h ok path ins q in
       let good = Covered.leaf (Holds.covered h) label x g.stands in
       on_tried (λ reply. Keeps w t call now (reply, after_try w label aux x stamp reply)) w.keys x les stamp w.start
-      (λ nodes macs. changed_leaf w t label aux leaf x cleared (leaf_entry w.keys TRY RIGHT label aux (cleared x) stamp) h g refl (leaf_cleared x good) refl (of_label label) refl refl nodes macs)
+      (λ nodes macs. changed_leaf w t label aux leaf x cleared (leaf_entry w.keys TRY RIGHT label aux (cleared x) stamp) h g refl (IsContents-cleared x good) refl (of_label label) refl refl (λ v i. refl) nodes macs)
       (λ ready nodes macs.
       let below = below_limit x.schedule x.wrong x.last stamp w.start good.schedule (λ q. cc (sym ready ∙ q)) in
       changed_leaf w t label aux leaf x (bumped stamp) (leaf_entry w.keys TRY WRONG label aux (bumped stamp x) stamp) h g refl
-      (leaf_bumped x stamp good h.small small below) refl (of_label label) refl (ne_eqb x.wrong (limit_of x.schedule) (λ e. omega arith)) nodes macs)
+      (IsContents-bumped x stamp good below h.small small) refl (of_label label) refl (ne_eqb x.wrong (limit_of x.schedule) (λ e. omega arith)) (λ v i. refl) nodes macs)
       (λ u nodes macs. h) (λ nodes macs. h))
       (λ r q. elim r as (λ r. Keeps w t call now (refused r, w)) [ NoLabel ↦ λ nodes macs. h | NoLeaf f ↦ λ nodes macs. h | NoPath ↦ λ nodes macs. h ])
 
@@ -233,7 +222,7 @@ module _ (N M : List ℕ → Type 0) (apart : HasNoCollision N) (b s : ℕ) wher
       (λ x q.
       let g = try_genuine w t label aux leaf x h ok path ins q in
       on_reset (λ reply. Keeps w t call now (reply, after_reset w label aux x stamp reply)) w.keys x reset
-      (λ nodes macs. changed_leaf w t label aux leaf x cleared (leaf_entry w.keys RESET NO_VERDICT label aux (cleared x) stamp) h g refl (leaf_cleared x (Covered.leaf (Holds.covered h) label x g.stands)) refl (of_label label) refl refl nodes macs)
+      (λ nodes macs. changed_leaf w t label aux leaf x cleared (leaf_entry w.keys RESET NO_VERDICT label aux (cleared x) stamp) h g refl (IsContents-cleared x (Covered.leaf (Holds.covered h) label x g.stands)) refl (of_label label) refl refl (λ v i. refl) nodes macs)
       (λ nodes macs. h))
       (λ r q. elim r as (λ r. Keeps w t call now (refused r, w)) [ NoLabel ↦ λ nodes macs. h | NoLeaf f ↦ λ nodes macs. h | NoPath ↦ λ nodes macs. h ])
 
@@ -252,7 +241,7 @@ module _ (N M : List ℕ → Type 0) (apart : HasNoCollision N) (b s : ℕ) wher
         nodes = subst (λ ks. (a : List ℕ) → OnTree (values ks none) a → N a) same nodes;
         macs = subst (λ ks. (a : List ℕ) → InLeaves ks none a → M a) same macs;
       })
-      refl (λ l q. absurd (false≢true q))
+      refl (λ l q. absurd (false≢true q)) (λ i. refl)
 
   -- ---- replay and log
 

@@ -52,7 +52,7 @@ count_is [] label x e = cc
 count_is (noted ∷ older) label x e = count_step noted.stamp noted.call noted.reply (leaves_of older) label x (wrongs_since label older) (λ y q. count_is older label y q) e
 
 -- the ledger is that of the history
-same_ledger : (events : List Event) (w : ChipState) (ledger : Ledger) (history : List Noted) → leaves_of history ≡ ledger.leaves
+pub same_ledger : (events : List Event) (w : ChipState) (ledger : Ledger) (history : List Noted) → leaves_of history ≡ ledger.leaves
     → leaves_of (history_after w ledger events history) ≡ (ledger_in_the_end w ledger events).leaves
 unfolding history_after ledger_in_the_end leaves_of noted_call
 same_ledger [] w ledger history e = e

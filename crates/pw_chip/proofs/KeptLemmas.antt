@@ -8,6 +8,7 @@ use Rattle.pw_path.specs.Path.{OnTree, HasNoCollision}
 use Rattle.pw_path.proofs.TreeLemmas.{one_tree, set_value_other, set_value_same}
 use Rattle.pw_log.specs.declared.entry.LogEntry.{LogEntry}
 use Rattle.pw_log.specs.Entries.{pushed}
+use Rattle.pw_chip.specs.Told.{told}
 use Rattle.pw_leaf.specs.declared.keys.ChipKeys.{ChipKeys}
 use Rattle.pw_leaf.specs.Contents.{Contents, IsContents}
 use Rattle.pw_leaf.proofs.Cases.{on_cond}
@@ -31,6 +32,7 @@ pub record Past (N M : List ℕ → Type 0) (w : ChipState) (leaves : ℕ → Op
   pub covered : Covered N M w.keys before
   pub root : w.log.older.root ≡ root (values w.keys before)
   pub follows : (label : ℕ) → is_replayed w.log.newest label ≡ true → Redone w.log.newest label before leaves
+  pub tells : (i : ℕ) → values w.keys leaves i ≡ told w.log.newest (values w.keys before) i
 
 pub record Holds (N M : List ℕ → Type 0) (b s : ℕ) (w : ChipState) (leaves : ℕ → Option Contents) : Type 0 where
   pub macs : HasNoMacCollision w.keys.mac M
@@ -43,7 +45,7 @@ pub record Holds (N M : List ℕ → Type 0) (b s : ℕ) (w : ChipState) (leaves
 
 module _ (N M : List ℕ → Type 0) (apart : HasNoCollision N) (b s : ℕ) where
   -- ledgers with one root are one
-  same_leaves : (w : ChipState) (t t' : ℕ → Option Contents) → HasNoMacCollision w.keys.mac M → Covered N M w.keys t → Covered N M w.keys t' → root (values w.keys t) ≡ root (values w.keys t') → (i : ℕ) → t i ≡ t' i
+  pub same_leaves : (w : ChipState) (t t' : ℕ → Option Contents) → HasNoMacCollision w.keys.mac M → Covered N M w.keys t → Covered N M w.keys t' → root (values w.keys t) ≡ root (values w.keys t') → (i : ℕ) → t i ≡ t' i
   same_leaves w t t' macs c c' e i =
       elim (cases_lt i 16384) [
         | inl lt ↦ same_leaf N M w.keys apart macs t t' i c c' (one_tree N apart (values w.keys t) (values w.keys t') (values_hashes w.keys t) (values_hashes w.keys t') c.nodes c'.nodes e i lt)
@@ -57,9 +59,9 @@ module _ (N M : List ℕ → Type 0) (apart : HasNoCollision N) (b s : ℕ) wher
 
   -- the words after an entry whose root is that of the leaves
   pub kept_logged : (w : ChipState) (t t' : ℕ → Option Contents) (e : LogEntry) → Holds N M b s w t → Covered N M w.keys t' → e.root ≡ root (values w.keys t')
-      → ((label : ℕ) → is_replayed e label ≡ true → Redone e label t t') → Holds N M b s (logged w e) t'
+      → ((label : ℕ) → is_replayed e label ≡ true → Redone e label t t') → ((i : ℕ) → values w.keys t' i ≡ told e (values w.keys t) i) → Holds N M b s (logged w e) t'
   unfolding logged
-  kept_logged w t t' e h c r redone =
+  kept_logged w t t' e h c r redone tells =
       on_cond (λ v. Holds N M b s v t') (bytes_eq e.root w.log.newest.root) w (record w { log = pushed w.log e })
       (λ same.
       let q : e.root ≡ w.log.newest.root = (bytes_eq-Decides e.root w.log.newest.root).0 same in
@@ -72,7 +74,7 @@ module _ (N M : List ℕ → Type 0) (apart : HasNoCollision N) (b s : ℕ) wher
         small = h.small;
         covered = c;
         root = r;
-        past = record { before = t; covered = h.covered; root = h.root; follows = redone };
+        past = record { before = t; covered = h.covered; root = h.root; follows = redone; tells = tells };
       })
 
   -- keys stay

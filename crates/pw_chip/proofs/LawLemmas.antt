@@ -7,7 +7,8 @@ use Rattle.pw_chip.specs.State.{ChipState, booted, new_state, empty_root}
 use Rattle.pw_chip.specs.Calls.{CallData}
 use Rattle.pw_chip.specs.Step.{step}
 use Rattle.pw_chip.specs.Ledger.{Event, Boots, Calls, Ledger, noted_call, noted_boot, new_ledger, leaves_after}
-use Rattle.pw_chip.specs.Law.{values, InLeaves, OnPresented, InPresented, Hashed, Signed, IsClean, IsCall, AreEvents, IsLawful, Law}
+use Rattle.pw_chip.specs.Law.{values, InLeaves, OnPresented, InPresented, Hashed, Signed, HasNoMacCollision, IsClean, IsCall, AreEvents, IsLawful, Law}
+use Rattle.pw_chip.specs.History.{ledger_in_the_end, words_in_the_end}
 use Rattle.pw_chip.proofs.GenuineLemmas.{Covered}
 use Rattle.pw_chip.proofs.KeptLemmas.{Holds}
 use Rattle.pw_chip.proofs.CallLemmas.{Keeps, kept_call, law_call}
@@ -23,7 +24,7 @@ holds_booted N M w ledger moment h =
       small = omega arith;
       covered = h.covered;
       root = h.root;
-      past = record { before = p.before; covered = p.covered; root = p.root; follows = p.follows };
+      past = record { before = p.before; covered = p.covered; root = p.root; follows = p.follows; tells = p.tells };
     }
 
 first_nodes : (w : ChipState) (ledger : Ledger) (events : List Event) (a : List ℕ) → OnTree (values w.keys ledger.leaves) a → Hashed w ledger events a
@@ -81,26 +82,59 @@ law_from N M apart (Calls call now ∷ events) w ledger h ok nodes macs =
       ),
     )
 
-pub chip_law : (keys : ChipKeys) (events : List Event) → AreEvents events → IsClean (new_state keys) new_ledger events → Law (new_state keys) new_ledger events
+-- what holds of a new chip
+holds_new : (N M : List ℕ → Type 0) (keys : ChipKeys) (events : List Event) → HasNoMacCollision keys.mac M
+    → ((a : List ℕ) → Hashed (new_state keys) new_ledger events a → N a) → ((a : List ℕ) → Signed (new_state keys) new_ledger events a → M a)
+    → Holds N M 0 0 (new_state keys) (λ i. None)
 unfolding empty_root
-chip_law keys events ok clean =
-    let N = Hashed (new_state keys) new_ledger events in
-    let M = Signed (new_state keys) new_ledger events in
+holds_new N M keys events apart nodes macs =
     let none : ℕ → Option Contents = λ i. None in
     let covered : Covered N M keys none = record {
       leaf = λ i x q. cc q;
       label = λ i x q. cc q;
-      nodes = first_nodes (new_state keys) new_ledger events;
-      macs = first_macs (new_state keys) new_ledger events;
+      nodes = λ a q. nodes a (first_nodes (new_state keys) new_ledger events a q);
+      macs = λ a q. macs a (first_macs (new_state keys) new_ledger events a q);
     } in
-    law_from N M clean.hashes events (new_state keys) new_ledger
-    (record {
-      macs = clean.macs;
+    record {
+      macs = apart;
       boot = refl;
       start = refl;
       small = omega arith;
       covered = covered;
       root = refl;
-      past = record { before = none; covered = covered; root = refl; follows = λ l q. cc q };
-    })
+      past = record { before = none; covered = covered; root = refl; follows = λ l q. cc q; tells = λ i. refl };
+    }
+
+pub chip_law : (keys : ChipKeys) (events : List Event) → AreEvents events → IsClean (new_state keys) new_ledger events → Law (new_state keys) new_ledger events
+chip_law keys events ok clean =
+    let N = Hashed (new_state keys) new_ledger events in
+    let M = Signed (new_state keys) new_ledger events in
+    law_from N M clean.hashes events (new_state keys) new_ledger
+    (holds_new N M keys events clean.macs (λ a q. q) (λ a q. q))
     ok (λ a q. q) (λ a q. q)
+
+-- ---- what holds in the end
+
+holds_from : (N M : List ℕ → Type 0) → HasNoCollision N → (events : List Event) (w : ChipState) (ledger : Ledger) → Holds N M ledger.boot ledger.start w ledger.leaves → AreEvents events
+    → ((a : List ℕ) → Hashed w ledger events a → N a) → ((a : List ℕ) → Signed w ledger events a → M a)
+    → Holds N M (ledger_in_the_end w ledger events).boot (ledger_in_the_end w ledger events).start (words_in_the_end w events) (ledger_in_the_end w ledger events).leaves
+unfolding AreEvents Hashed Signed ledger_in_the_end words_in_the_end
+holds_from N M apart [] w ledger h ok nodes macs = h
+holds_from N M apart (Boots moment ∷ events) w ledger h ok nodes macs =
+    holds_from N M apart events (booted w moment) (noted_boot ledger moment) (holds_booted N M w ledger moment h) ok.1
+    (λ a q. nodes a (inr (inr q))) (λ a q. macs a (inr (inr q)))
+holds_from N M apart (Calls call now ∷ events) w ledger h ok nodes macs =
+    let next : ChipState = (step w call now).1 in
+    let noted : Ledger = noted_call ledger call now (step w call now).0 in
+    holds_from N M apart events next noted
+    (holds_called N M apart w ledger call now h ok.0.0 ok.0.1 (λ a q. nodes a (inr (inl q))) (λ a q. macs a (inr (inl q)))
+    (λ a q. nodes a (inr (inr (first_nodes next noted events a q)))) (λ a q. macs a (inr (inr (first_macs next noted events a q)))))
+    ok.1 (λ a q. nodes a (inr (inr q))) (λ a q. macs a (inr (inr q)))
+
+-- a run from a new chip leaves what holds
+pub holds_in_the_end : (N M : List ℕ → Type 0) → HasNoCollision N → (keys : ChipKeys) (events : List Event) → HasNoMacCollision keys.mac M → AreEvents events
+    → ((a : List ℕ) → Hashed (new_state keys) new_ledger events a → N a) → ((a : List ℕ) → Signed (new_state keys) new_ledger events a → M a)
+    → Holds N M (ledger_in_the_end (new_state keys) new_ledger events).boot (ledger_in_the_end (new_state keys) new_ledger events).start
+    (words_in_the_end (new_state keys) events) (ledger_in_the_end (new_state keys) new_ledger events).leaves
+holds_in_the_end N M apart keys events clean ok nodes macs =
+    holds_from N M apart events (new_state keys) new_ledger (holds_new N M keys events clean nodes macs) ok nodes macs

@@ -8,3 +8,8 @@ pub mod StepLemmas
 pub mod WordsLemmas
 pub mod EraLemmas
 pub mod ReachedLemmas
+pub mod StandingLemmas
+pub mod AcceptedWordsLemmas
+pub mod ReachLemmas
+pub mod LeafLemmas
+pub mod ToldLemmas

@@ -146,7 +146,7 @@ new_booted : (keys : ChipKeys) (moment : ℕ) → length keys.mac ≡ 32 → len
 new_booted keys moment mac enc timely =
     record { mac_key = mac; cipher_key = enc; booted = omega arith; boot = omega arith; start = timely; newest = blank_kept; older = blank_kept }
 
-events_kept : (events : List Event) (w : ChipState) → IsWords w → AreEvents events → IsWords (words_in_the_end w events)
+pub events_kept : (events : List Event) (w : ChipState) → IsWords w → AreEvents events → IsWords (words_in_the_end w events)
 unfolding words_in_the_end AreEvents
 events_kept [] w is ok = is
 events_kept (Boots moment ∷ events) w is ok = events_kept events (booted w moment) (boot_kept w moment is ok.0) ok.1

@@ -4,22 +4,18 @@ use Rattle.std.specs.Prelude.{bytes_eq, slice_index}
 use Rattle.std.specs.Int.{w16, w64, to_be_bytes, from_be_bytes}
 use Rattle.std.proofs.lemmas.Bool.{cases_eq, le-ltb, lt-leb, eq-eqb, ne_eqb}
 use Rattle.std.proofs.lemmas.Slice.Eq.{bytes_eq-Decides}
-use Rattle.std.proofs.lemmas.List.{take_at, drop_at, length-append, drop-drop, append_assoc}
+use Rattle.std.proofs.lemmas.List.{length-append, append_assoc}
 use Rattle.std.proofs.lemmas.Nat.{from_be_bytes-to_be_bytes_2, from_be_bytes-to_be_bytes_8}
 use Rattle.pw_log.specs.declared.entry.LogEntry.{LogEntry}
 use Rattle.pw_log.specs.declared.entry.TheConstants.{RESET, TRY, WRONG}
 use Rattle.pw_leaf.proofs.Cases.{on_cond}
+use Rattle.pw_leaf.proofs.RecordLemmas.{drop_past, take_there}
 use Rattle.pw_chip.specs.State.{ChipState}
 use Rattle.pw_chip.specs.WordsBytes.{entry_bytes, words_bytes, IsKept, IsWords, entry_in, has_verdict, entry_at, state_in, with_newest, with_older, words_at}
 
 -- ---- fields one after another
 
-drop_past : (n k m : ℕ) (b front rest : List ℕ) → n + k ≡ m → drop n b ≡ front ++ rest → length front ≡ k → drop m b ≡ rest
-drop_past n k m b front rest s e l = ap (λ i. drop i b) (sym s) ∙ sym (drop-drop k n b) ∙ ap (drop k) e ∙ drop_at front rest k l
-
-take_there : (n k : ℕ) (b front rest : List ℕ) → drop n b ≡ front ++ rest → length front ≡ k → take k (drop n b) ≡ front
-take_there n k b front rest e l = ap (take k) e ∙ take_at front rest k l
-
+-- the byte that stands at a place
 first_there : (n x : ℕ) (b rest : List ℕ) → drop n b ≡ (x ∷ []) ++ rest → slice_index b n ≡ x
 first_there n x b rest e = ap (λ i. get_or b i 0) (omega arith) ∙ sym (get_or-drop n b 0 0) ∙ ap (λ l. get_or l 0 0) e
 

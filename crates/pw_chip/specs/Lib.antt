@@ -4,6 +4,9 @@ pub mod Step
 pub mod Ledger
 pub mod Law
 pub mod History
+pub mod Told
+pub mod Standing
 pub mod CallOf
 pub mod Held
 pub mod WordsBytes
+pub mod Reach

@@ -1,6 +1,6 @@
 //! What a chip keeps.
 
-ghost use Rattle.std.specs.Prelude.{◌≡◌, ◌<◌, ◌≤◌, ◌^◌};
+ghost use Rattle.std.specs.Prelude.{◌≡◌, ◌<◌, ◌≤◌, ◌^◌, IfOk, IfSome};
 ghost use Rattle.pw_chip.specs.WordsBytes.{IsWords, words_at, words_bytes};
 ghost use Rattle.pw_log.specs.Entry.{IsEntry};
 ghost use Rattle.pw_chip.specs.State.{new_state, booted, blank_entry};
@@ -66,9 +66,18 @@ impl Words {
 
     /// Reads words. They are `None` for a blank chip, whose bytes are all zero.
     ///
-    /// The fault is `BadWords` with the place of the first field that breaks its rule.
-    #[tactic(auto, unfolding(crate::specs::WordsBytes::words_at))]
+    /// The fault is `BadWords` with the place of the first field that breaks its rule. Words that are read can
+    /// be kept: so what is written of them is read.
     pub fn read(bytes: &[u8; WORDS_BYTES]) -> Result<Option<Words>, WordsFault>
+        ensures value { result ≡ words_at bytes.now }
+        ensures kept { IfOk result (λ words. IfSome words IsWords) }
+    {
+        Words::in_bytes(bytes)
+    }
+
+    // What the bytes hold.
+    #[tactic(auto, unfolding(crate::specs::WordsBytes::words_at))]
+    fn in_bytes(bytes: &[u8; WORDS_BYTES]) -> Result<Option<Words>, WordsFault>
         ensures { result ≡ words_at bytes.now }
     {
         if *bytes == [0; WORDS_BYTES] {

@@ -70,28 +70,30 @@ abbrev pub AreBytes : List ℕ → Type 0
 AreBytes bytes = All (λ byte. byte < 256) bytes
 
 -- also past the end, where 0 is read
-byte_fits : (bytes : List ℕ) → AreBytes bytes → (i : ℕ) → get_or bytes i 0 < 256
+pub byte_fits : (bytes : List ℕ) → AreBytes bytes → (i : ℕ) → get_or bytes i 0 < 256
 byte_fits bytes fit i =
     elim (cases_lt i (length bytes)) [
       | inl inside ↦ fit i 0 inside
       | inr past ↦ rw (get_or_past bytes i 0 past) (omega arith)
     ]
 
-length_field : (bytes : List ℕ) (at n : ℕ) → at + n ≤ length bytes → length (take n (drop at bytes)) ≡ n
+-- a field inside has its length
+pub length_field : (bytes : List ℕ) (at n : ℕ) → at + n ≤ length bytes → length (take n (drop at bytes)) ≡ n
 length_field bytes at n inside = length-take-le n (drop at bytes) (let l = length-drop at bytes in omega arith)
 
-field_fits : (bytes : List ℕ) (at n : ℕ) → AreBytes bytes → (i : ℕ) → get_or (take n (drop at bytes)) i 0 < 256
+-- a field is of bytes
+pub field_fits : (bytes : List ℕ) (at n : ℕ) → AreBytes bytes → (i : ℕ) → get_or (take n (drop at bytes)) i 0 < 256
 field_fits bytes at n fit =
     byte_fits (take n (drop at bytes)) (All-take (λ byte. byte < 256) n (drop at bytes) (All-drop (λ byte. byte < 256) at bytes fit))
 
 -- a number that was read, written again
-number_2 : (bytes : List ℕ) (at : ℕ) → AreBytes bytes → at + 2 ≤ length bytes → to_be_bytes w16 (from_be_bytes w16 (take 2 (drop at bytes))) ≡ take 2 (drop at bytes)
+pub number_2 : (bytes : List ℕ) (at : ℕ) → AreBytes bytes → at + 2 ≤ length bytes → to_be_bytes w16 (from_be_bytes w16 (take 2 (drop at bytes))) ≡ take 2 (drop at bytes)
 number_2 bytes at fit inside = be_bytes_2 (take 2 (drop at bytes)) _ (length_field bytes at 2 inside) (field_fits bytes at 2 fit) refl
 
-number_4 : (bytes : List ℕ) (at : ℕ) → AreBytes bytes → at + 4 ≤ length bytes → to_be_bytes w32 (from_be_bytes w32 (take 4 (drop at bytes))) ≡ take 4 (drop at bytes)
+pub number_4 : (bytes : List ℕ) (at : ℕ) → AreBytes bytes → at + 4 ≤ length bytes → to_be_bytes w32 (from_be_bytes w32 (take 4 (drop at bytes))) ≡ take 4 (drop at bytes)
 number_4 bytes at fit inside = be_bytes_4 (take 4 (drop at bytes)) _ (length_field bytes at 4 inside) (field_fits bytes at 4 fit) refl
 
-number_8 : (bytes : List ℕ) (at : ℕ) → AreBytes bytes → at + 8 ≤ length bytes → to_be_bytes w64 (from_be_bytes w64 (take 8 (drop at bytes))) ≡ take 8 (drop at bytes)
+pub number_8 : (bytes : List ℕ) (at : ℕ) → AreBytes bytes → at + 8 ≤ length bytes → to_be_bytes w64 (from_be_bytes w64 (take 8 (drop at bytes))) ≡ take 8 (drop at bytes)
 number_8 bytes at fit inside = be_bytes_8 (take 8 (drop at bytes)) _ (length_field bytes at 8 inside) (field_fits bytes at 8 fit) refl
 
 -- eight bytes as a number
@@ -99,7 +101,8 @@ eight_fit : (a b c d e f g h : ℕ) → a < 256 → b < 256 → c < 256 → d < 
     → a * 256 ^ 7 + b * 256 ^ 6 + c * 256 ^ 5 + d * 256 ^ 4 + e * 256 ^ 3 + f * 256 ^ 2 + g * 256 ^ 1 + h < 2 ^ 64
 eight_fit a b c d e f g h a' b' c' d' e' f' g' h' = omega arith
 
-number_fits : (bytes : List ℕ) → ((i : ℕ) → get_or bytes i 0 < 256) → from_be_bytes w64 bytes < 2 ^ 64
+-- what eight bytes hold is below 2^64
+pub number_fits : (bytes : List ℕ) → ((i : ℕ) → get_or bytes i 0 < 256) → from_be_bytes w64 bytes < 2 ^ 64
 number_fits bytes fit =
     eight_fit (get_or bytes 0 0) (get_or bytes 1 0) (get_or bytes 2 0) (get_or bytes 3 0) (get_or bytes 4 0) (get_or bytes 5 0) (get_or bytes 6 0) (get_or bytes 7 0)
     (fit 0) (fit 1) (fit 2) (fit 3) (fit 4) (fit 5) (fit 6) (fit 7)
@@ -191,7 +194,7 @@ IsContents-contents_in keys bytes long fit right =
     }
 
 -- the bytes up to the end of one more field
-one_more : (at n to : ℕ) (bytes front field : List ℕ) → at + n ≡ to → take at bytes ≡ front → field ≡ take n (drop at bytes) → take to bytes ≡ front ++ field
+pub one_more : (at n to : ℕ) (bytes front field : List ℕ) → at + n ≡ to → take at bytes ≡ front → field ≡ take n (drop at bytes) → take to bytes ≡ front ++ field
 one_more at n to bytes front field ends so_far same = ap (λ k. take k bytes) (sym ends) ∙ take-add at n bytes ∙ (λ i. so_far i ++ sym same i)
 
 -- bytes 0 to 131

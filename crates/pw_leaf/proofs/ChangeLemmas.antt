@@ -37,7 +37,8 @@ leaf_bytes-with_tries keys bytes x wrong last fit ok =
 
 -- ---- a changed record is one
 
-IsContents-bumped : (x : Contents) (now : Stamp) → IsContents x → x.wrong < limit_of x.schedule → now.boot < 2 ^ 64 → now.at < 2 ^ 40 → IsContents (bumped now x)
+-- a wrong try more, of a leaf that has tries left
+pub IsContents-bumped : (x : Contents) (now : Stamp) → IsContents x → x.wrong < limit_of x.schedule → now.boot < 2 ^ 64 → now.at < 2 ^ 40 → IsContents (bumped now x)
 IsContents-bumped x now h room boot moment =
     record {
       label = h.label;
@@ -52,7 +53,8 @@ IsContents-bumped x now h room boot moment =
       iv = h.iv;
     }
 
-IsContents-cleared : (x : Contents) → IsContents x → IsContents (cleared x)
+-- no wrong try
+pub IsContents-cleared : (x : Contents) → IsContents x → IsContents (cleared x)
 IsContents-cleared x h =
     record {
       label = h.label;

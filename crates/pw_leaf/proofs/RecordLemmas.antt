@@ -27,10 +27,12 @@ length-leaf_mac keys x = length-hmac keys.mac (leaf_text keys x)
 
 -- ---- where each field stands
 
-drop_past : (n k m : ℕ) (b front rest : List ℕ) → n + k ≡ m → drop n b ≡ front ++ rest → length front ≡ k → drop m b ≡ rest
+-- what stands behind a part of k bytes
+pub drop_past : (n k m : ℕ) (b front rest : List ℕ) → n + k ≡ m → drop n b ≡ front ++ rest → length front ≡ k → drop m b ≡ rest
 drop_past n k m b front rest s e l = ap (λ i. drop i b) (sym s) ∙ sym (drop-drop k n b) ∙ ap (drop k) e ∙ drop_at front rest k l
 
-take_there : (n k : ℕ) (b front rest : List ℕ) → drop n b ≡ front ++ rest → length front ≡ k → take k (drop n b) ≡ front
+-- a part of k bytes that stands at a place
+pub take_there : (n k : ℕ) (b front rest : List ℕ) → drop n b ≡ front ++ rest → length front ≡ k → take k (drop n b) ≡ front
 take_there n k b front rest e l = ap (take k) e ∙ take_at front rest k l
 
 record Laid (keys : ChipKeys) (x : Contents) (b : List ℕ) : Type 0 where

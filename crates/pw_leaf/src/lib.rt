@@ -20,6 +20,3 @@ pub use laws::{
 pub use leaf::{LEAF_BYTES, Leaf, PublicLeaf};
 pub use read::{check, look};
 pub use write::make;
-
-#[cfg(test)]
-mod tests;

@@ -1,18 +1,14 @@
-//! A chip with one leaf, refusal by refusal, and through the default schedule; and words with each field broken.
+//! A chip with one leaf, refusal by refusal, and through the default schedule.
 
-ghost use Rattle.std.specs.Prelude.{◌<◌, ◌≤◌, ◌^◌};
+ghost use Rattle.std.specs.Prelude.{◌<◌, ◌^◌};
 
-use crate::bytes::{WORDS_BYTES, WordsFault};
-use crate::call::Call;
-use crate::reply::Reply;
-use crate::step::Chip;
-use crate::words::Words;
+use pw_chip::{Call, Chip, Reply, Words};
 use pw_leaf::{ChipKeys, LEAF_BYTES, LeafFault};
 use pw_log::LogAnswer;
 use pw_path::{Aux, empty_roots};
 use pw_types::Schedule;
 
-const KEYS: ChipKeys = ChipKeys {
+pub(crate) const KEYS: ChipKeys = ChipKeys {
     mac: [1; 32],
     enc: [2; 32],
 };
@@ -20,7 +16,7 @@ const KEYS: ChipKeys = ChipKeys {
 const NO_LEAF: [u8; LEAF_BYTES] = [0; LEAF_BYTES];
 
 // The siblings of a label in a tree that is empty beside it.
-fn lonely_aux() -> Aux {
+pub(crate) fn lonely_aux() -> Aux {
     let roots = empty_roots();
     let mut aux: Aux = [[[0; 32]; 3]; 7];
     for level in 0..7usize {
@@ -29,7 +25,7 @@ fn lonely_aux() -> Aux {
     aux
 }
 
-fn insert_at(label: u16, mac: [u8; 32], aux: Aux) -> Call<'static> {
+pub(crate) fn insert_at(label: u16, mac: [u8; 32], aux: Aux) -> Call<'static> {
     Call::Insert {
         label,
         aux,
@@ -43,7 +39,7 @@ fn insert_at(label: u16, mac: [u8; 32], aux: Aux) -> Call<'static> {
 }
 
 // The record of a reply, and zero bytes where it has none.
-fn record_of(reply: &Reply) -> [u8; LEAF_BYTES] {
+pub(crate) fn record_of(reply: &Reply) -> [u8; LEAF_BYTES] {
     match reply {
         Reply::Inserted(leaf) | Reply::Wrong(leaf) | Reply::Cleared(leaf) | Reply::Replayed(leaf) =>
             *leaf,
@@ -58,7 +54,7 @@ fn mac_in(leaf: &[u8; LEAF_BYTES]) -> [u8; 32] {
     mac
 }
 
-fn try_at(
+pub(crate) fn try_at(
     words: &mut Words,
     label: u16,
     leaf: &[u8; LEAF_BYTES],
@@ -76,75 +72,111 @@ fn try_at(
     Chip::step(words, &call, moment)
 }
 
-#[test]
-fn each_refusal_comes_where_its_cause_stands_first(rt: HostRuntime) {
-    let aux = lonely_aux();
-    let mut wrong_aux = aux;
-    wrong_aux[3] = [[9; 32]; 3];
+// The siblings of label 1 beside a leaf at label 0.
+fn aux_beside(leaf: &[u8; LEAF_BYTES]) -> Aux {
+    let mut aux = lonely_aux();
+    aux[0][0] = mac_in(leaf);
+    aux
+}
+
+fn remove_at(label: u16, mac: [u8; 32], aux: Aux) -> Call<'static> {
+    Call::Remove { label, aux, mac }
+}
+
+// A chip in its first boot with a leaf at label 0, and the leaf's record.
+fn chip_with_leaf() -> (Words, [u8; LEAF_BYTES]) {
     let mut words = Words::new(KEYS);
     words.boot(900);
-    assert_eq!(rt;
-        Chip::step(&mut words, &insert_at(16_384, [0; 32], aux), 1_000),
-        Reply::LabelInvalid
-    );
-    assert_eq!(rt;
-        Chip::step(&mut words, &insert_at(0, [0; 32], wrong_aux), 1_000),
-        Reply::PathAuthFailed
-    );
-    let empty = Call::Remove {
-        label: 0,
-        aux,
-        mac: [0; 32],
-    };
-    assert_eq!(rt; Chip::step(&mut words, &empty, 1_000), Reply::LabelEmpty);
-    let leaf = record_of(&Chip::step(&mut words, &insert_at(0, [0; 32], aux), 1_000));
-    assert_eq!(rt;
-        Chip::step(&mut words, &insert_at(0, mac_in(&leaf), aux), 1_000),
-        Reply::LabelUsed
-    );
+    let leaf = record_of(&Chip::step(&mut words, &insert_at(0, [0; 32], lonely_aux()), 1_000));
+    (words, leaf)
+}
+
+// A path that gives no root of the tree.
+fn wrong_aux() -> Aux {
+    let mut aux = lonely_aux();
+    aux[3] = [[9; 32]; 3];
+    aux
+}
+
+#[test]
+fn a_call_without_a_record_is_refused_where_its_cause_stands_first(rt: HostRuntime) {
+    let (mut words, leaf) = chip_with_leaf();
+    let before = words;
+    let mac = mac_in(&leaf);
+    let aux = lonely_aux();
+    let rows = [
+        (insert_at(16_384, mac, wrong_aux()), Reply::LabelInvalid),
+        (insert_at(0, mac, wrong_aux()), Reply::PathAuthFailed),
+        (insert_at(0, mac, aux), Reply::LabelUsed),
+        (remove_at(16_384, [0; 32], wrong_aux()), Reply::LabelInvalid),
+        (remove_at(0, [0; 32], aux), Reply::PathAuthFailed),
+        (remove_at(1, [0; 32], aux_beside(&leaf)), Reply::LabelEmpty),
+        (Call::GetLog { host: [3; 32] }, Reply::RootUnknown),
+    ];
+    for (call, reply) in &rows {
+        assert_eq!(rt; Chip::step(&mut words, call, 1_000), *reply);
+        assert_eq!(rt; words, before);
+    }
+}
+
+#[test]
+fn a_presented_record_is_refused_where_its_cause_stands_first(rt: HostRuntime) {
+    let (mut words, leaf) = chip_with_leaf();
+    let before = words;
     let mut damaged = leaf;
     damaged[295] ^= 1;
-    let faults: [(&[u8], LeafFault); 2] = [
-        (&damaged, LeafFault::BadMac),
-        (&NO_LEAF, LeafFault::BadVersion(0)),
+    // A label, the bytes and how many of them are shown.
+    let rows = [
+        (16_384, leaf, 295, Reply::LabelInvalid),
+        (0, leaf, 295, Reply::LeafInvalid(LeafFault::BadLength(295))),
+        (
+            0,
+            NO_LEAF,
+            296,
+            Reply::LeafInvalid(LeafFault::BadVersion(0)),
+        ),
+        (0, damaged, 296, Reply::LeafInvalid(LeafFault::BadMac)),
+        (1, leaf, 296, Reply::LeafInvalid(LeafFault::BadShape(1))),
+        (0, leaf, 296, Reply::PathAuthFailed),
     ];
-    for (presented, fault) in faults {
+    for (label, bytes, size, reply) in &rows {
+        let shown = &bytes[..(*size).min(LEAF_BYTES)];
         let tried = Call::Try {
-            label: 0,
-            aux,
-            leaf: presented,
+            label: *label,
+            aux: wrong_aux(),
+            leaf: shown,
             les: [5; 32],
         };
-        assert_eq!(rt;
-            Chip::step(&mut words, &tried, 1_000),
-            Reply::LeafInvalid(fault)
-        );
+        assert_eq!(rt; Chip::step(&mut words, &tried, 1_000), *reply);
+        let reset = Call::Reset {
+            label: *label,
+            aux: wrong_aux(),
+            leaf: shown,
+            reset: [8; 32],
+        };
+        assert_eq!(rt; Chip::step(&mut words, &reset, 1_000), *reply);
+        assert_eq!(rt; words, before);
     }
-    let foreign = Call::Try {
-        label: 1,
-        aux,
-        leaf: &leaf,
-        les: [5; 32],
-    };
-    assert_eq!(rt;
-        Chip::step(&mut words, &foreign, 1_000),
-        Reply::LeafInvalid(LeafFault::BadShape(1))
-    );
+}
+
+#[test]
+fn a_reset_with_another_secret_and_a_replay_of_an_insert_are_refused(rt: HostRuntime) {
+    let (mut words, leaf) = chip_with_leaf();
     let reset = Call::Reset {
         label: 0,
-        aux,
+        aux: lonely_aux(),
         leaf: &leaf,
         reset: [8; 32],
     };
     assert_eq!(rt; Chip::step(&mut words, &reset, 1_000), Reply::ResetWrong);
-    let host = Call::GetLog { host: [3; 32] };
-    assert_eq!(rt; Chip::step(&mut words, &host, 1_000), Reply::RootUnknown);
-    let replay = Call::Replay {
-        label: 0,
-        aux,
-        leaf: &leaf,
-    };
-    assert_eq!(rt; Chip::step(&mut words, &replay, 1_000), Reply::RootUnknown);
+    for (label, reply) in [(16_384, Reply::LabelInvalid), (0, Reply::RootUnknown)] {
+        let replay = Call::Replay {
+            label,
+            aux: lonely_aux(),
+            leaf: &leaf,
+        };
+        assert_eq!(rt; Chip::step(&mut words, &replay, 1_000), reply);
+    }
 }
 
 // The moments of tries, and the moment until which each is delayed, where it is.
@@ -276,91 +308,4 @@ fn a_record_under_its_old_path_is_refused(rt: HostRuntime) {
         Chip::step(&mut words, &now, 1_000),
         Reply::Released { leaf, hes }
     );
-}
-
-// The words of a chip with a leaf inserted and once wrongly tried, in its second boot.
-fn used_words() -> Words
-    ensures { 1 ≤ result.boot }
-{
-    let mut words = Words::new(KEYS);
-    words.boot(900);
-    let leaf = record_of(&Chip::step(&mut words, &insert_at(9, [0; 32], lonely_aux()), 950));
-    let _wrong = try_at(&mut words, 9, &leaf, [4; 32], 1_000);
-    words.boot(2_000);
-    words
-}
-
-// A byte of those words, a value that breaks its field, and the field's place: the version, the boot, its
-// start, operation, label, verdict and moment of the newest entry, which is a try, and of the older one,
-// which is an insert, and the zeros behind them.
-const BROKEN: [(u8, u8, usize); 16] = [
-    (0, 0, 0),
-    (0, 2, 0),
-    (72, 0, 65),
-    (75, 1, 73),
-    (81, 6, 81),
-    (82, 64, 82),
-    (148, 0, 148),
-    (148, 3, 148),
-    (159, 1, 157),
-    (165, 6, 165),
-    (166, 64, 166),
-    (232, 1, 232),
-    (232, 3, 232),
-    (243, 1, 241),
-    (249, 1, 249),
-    (255, 255, 249),
-];
-
-#[test]
-fn of_two_broken_fields_the_first_is_named(rt: HostRuntime) {
-    let whole = used_words().write();
-    for (place, value, field) in BROKEN {
-        let mut alone = whole;
-        alone[usize::from(place)] = value;
-        assert_eq!(rt;
-            Words::read(&alone),
-            Err(WordsFault::BadWords(field)),
-            "byte {place}"
-        );
-        for (other_place, other_value, other_field) in BROKEN {
-            let mut both = alone;
-            both[usize::from(other_place)] = other_value;
-            assert_eq!(rt;
-                Words::read(&both),
-                Err(WordsFault::BadWords(field.min(other_field))),
-                "bytes {place} and {other_place}"
-            );
-        }
-    }
-}
-
-#[test]
-fn a_verdict_is_for_a_try_alone(rt: HostRuntime) {
-    let whole = used_words().write();
-    let mut judged_insert = whole;
-    judged_insert[232] = 2;
-    let mut judged_try = whole;
-    judged_try[165] = 4;
-    judged_try[232] = 2;
-    let mut open_try = whole;
-    open_try[165] = 4;
-    let rows = [
-        (judged_insert, false),
-        (judged_try, true),
-        (open_try, false),
-    ];
-    for (bytes, fits) in rows {
-        assert_eq!(rt; Words::read(&bytes).is_ok(), fits);
-    }
-}
-
-#[test]
-fn words_are_read_as_they_were_and_a_blank_chip_has_none(rt: HostRuntime) {
-    let words = used_words();
-    assert_eq!(rt; Words::read(&words.write()), Ok(Some(words)));
-    assert_eq!(rt; Words::read(&[0; WORDS_BYTES]), Ok(None));
-    let mut nearly_blank = [0; WORDS_BYTES];
-    nearly_blank[255] = 1;
-    assert_eq!(rt; Words::read(&nearly_blank), Err(WordsFault::BadWords(0)));
 }

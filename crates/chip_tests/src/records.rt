@@ -1,11 +1,6 @@
 //! Leaf records, against those that another program wrote.
 
-use crate::change::{bump, clear};
-use crate::fault::LeafFault;
-use crate::keys::{ChipKeys, NewLeafSecrets};
-use crate::leaf::LEAF_BYTES;
-use crate::read::{check, look};
-use crate::write::make;
+use pw_leaf::{ChipKeys, LEAF_BYTES, LeafFault, NewLeafSecrets, bump, check, clear, look, make};
 use pw_path::Label;
 use pw_types::{Schedule, Stamp};
 
