@@ -3,7 +3,7 @@
 ghost use Rattle.std.specs.Prelude.{◌<◌, ◌^◌};
 
 use pw_chip::{Call, Chip, Reply, Words};
-use pw_leaf::{ChipKeys, LEAF_BYTES, LeafFault};
+use pw_leaf::{ChipKeys, LEAF_BYTES, LeafFault, mac_in};
 use pw_log::LogAnswer;
 use pw_path::{Aux, empty_roots};
 use pw_types::Schedule;
@@ -46,12 +46,6 @@ pub(crate) fn record_of(reply: &Reply) -> [u8; LEAF_BYTES] {
         Reply::Released { leaf, .. } => *leaf,
         _ => NO_LEAF,
     }
-}
-
-fn mac_in(leaf: &[u8; LEAF_BYTES]) -> [u8; 32] {
-    let mut mac = [0; 32];
-    mac.copy_from_slice(&leaf[264..]);
-    mac
 }
 
 pub(crate) fn try_at(

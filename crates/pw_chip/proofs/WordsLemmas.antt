@@ -9,7 +9,7 @@ use Rattle.std.proofs.lemmas.Nat.{from_be_bytes-to_be_bytes_2, from_be_bytes-to_
 use Rattle.pw_log.specs.declared.entry.LogEntry.{LogEntry}
 use Rattle.pw_log.specs.declared.entry.TheConstants.{RESET, TRY, WRONG}
 use Rattle.pw_leaf.proofs.Cases.{on_cond}
-use Rattle.pw_leaf.proofs.RecordLemmas.{drop_past, take_there}
+use Rattle.ct_bytes.proofs.FieldLemmas.{drop_past, take_there}
 use Rattle.pw_chip.specs.State.{ChipState}
 use Rattle.pw_chip.specs.WordsBytes.{entry_bytes, words_bytes, IsKept, IsWords, entry_in, has_verdict, entry_at, state_in, with_newest, with_older, words_at}
 

@@ -4,7 +4,8 @@ ghost use Rattle.std.specs.Prelude.{◌≡◌, ◌+◌, ◌≤◌, Ok, IfOk, len
 ghost use Rattle.pw_log.specs.Entry.{IsEntry};
 ghost use Rattle.pw_chip.specs.WordsBytes.{entry_at, entry_bytes, has_verdict};
 
-use pw_leaf::fields::{hash_at, put, u16_at, u64_at};
+use ct_bytes::Writer;
+use pw_leaf::fields::{hash_at, u16_at, u64_at};
 use pw_log::{LogEntry, RESET, RIGHT, TRY, WRONG};
 use pw_path::LABELS;
 use pw_types::Stamp;
@@ -45,13 +46,14 @@ pub(crate) fn entry_bytes(entry: &LogEntry) -> [u8; 84]
     ensures { result ≡ entry_bytes entry.now }
 {
     let mut bytes = [0; 84];
-    put(&mut bytes, 0, &[entry.operation]);
-    put(&mut bytes, 1, &entry.label.to_be_bytes());
-    put(&mut bytes, 3, &entry.root);
-    put(&mut bytes, 35, &entry.mac);
-    put(&mut bytes, 67, &[entry.verdict]);
-    put(&mut bytes, 68, &entry.stamp.boot.to_be_bytes());
-    put(&mut bytes, 76, &entry.stamp.at.to_be_bytes());
+    let mut writer = Writer::new(&mut bytes);
+    writer.put_u8(entry.operation).unwrap();
+    writer.put_u16(entry.label).unwrap();
+    writer.put(&entry.root).unwrap();
+    writer.put(&entry.mac).unwrap();
+    writer.put_u8(entry.verdict).unwrap();
+    writer.put_u64(entry.stamp.boot).unwrap();
+    writer.put_u64(entry.stamp.at).unwrap();
     bytes
 }
 

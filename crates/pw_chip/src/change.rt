@@ -5,15 +5,15 @@ ghost use Rattle.pw_types.specs.Schedule.{limit_of};
 ghost use Rattle.pw_log.specs.declared.entry.TheConstants.{TRY, WRONG};
 ghost use Rattle.pw_leaf.specs.Contents.{bumped, cleared};
 ghost use Rattle.pw_leaf.specs.LeafBytes.{leaf_bytes};
-ghost use Rattle.pw_leaf.specs.Reading.{check_at, mac_of};
+ghost use Rattle.pw_leaf.specs.Reading.{check_at};
 ghost use Rattle.pw_chip.specs.Step.{logged, leaf_entry};
 ghost use Rattle.pw_chip.specs.Held.{held, entry_of, CanNote};
 
 use crate::open::Opened;
 use crate::words::Words;
-use pw_leaf::{LEAF_BYTES, bump, clear};
+use pw_leaf::{LEAF_BYTES, bump, clear, mac_in};
 use pw_log::{LogEntry, TRY, WRONG};
-use pw_path::{Aux, Hash, Label, root_of};
+use pw_path::{Aux, Label, root_of};
 use pw_types::Stamp;
 
 // Notes a call that leaves this record at the label.
@@ -88,13 +88,4 @@ pub(crate) fn note_bumped(
     let leaf = bump(words.keys(), &opened.bytes, Stamp { boot, at: now });
     note_leaf(words, TRY, WRONG, opened.leaf.label, aux, &leaf, now);
     leaf
-}
-
-// The MAC of a record.
-fn mac_in(leaf: &[u8; LEAF_BYTES]) -> Hash
-    ensures { result ≡ mac_of leaf.now }
-{
-    let mut mac = [0; 32];
-    mac.copy_from_slice(&leaf[264..]);
-    mac
 }

@@ -10,8 +10,9 @@ use crate::bytes::{
     BOOT_AT, CIPHER_KEY_AT, MAC_KEY_AT, MOMENTS, NEWEST_AT, OLDER_AT, REST_AT, START_AT, VERSION,
     WORDS_BYTES, WordsFault, entry_at, entry_bytes,
 };
+use ct_bytes::Writer;
 use pw_leaf::ChipKeys;
-use pw_leaf::fields::{hash_at, put, u64_at};
+use pw_leaf::fields::{hash_at, u64_at};
 use pw_log::{BLANK, Log, LogEntry, NO_VERDICT};
 use pw_path::{Hash, LEVELS, empty_roots};
 use pw_types::Stamp;
@@ -119,19 +120,21 @@ impl Words {
     }
 
     /// The words as bytes.
+    #[tactic(auto, unfolding(crate::specs::WordsBytes::words_bytes))]
     pub fn write(&self) -> [u8; WORDS_BYTES]
         requires { 1 ≤ self.now.boot }
         ensures { result ≡ words_bytes self.now }
     {
         let mut bytes = [0; WORDS_BYTES];
-        put(&mut bytes, 0, &[VERSION]);
-        put(&mut bytes, MAC_KEY_AT, &self.keys.mac);
-        put(&mut bytes, CIPHER_KEY_AT, &self.keys.enc);
-        put(&mut bytes, BOOT_AT, &self.boot.to_be_bytes());
-        put(&mut bytes, START_AT, &self.start.to_be_bytes());
-        put(&mut bytes, NEWEST_AT, &entry_bytes(self.log.newest()));
-        put(&mut bytes, OLDER_AT, &entry_bytes(self.log.older()));
-        put(&mut bytes, REST_AT, &[0; 7]);
+        let mut writer = Writer::new(&mut bytes);
+        writer.put_u8(VERSION).unwrap();
+        writer.put(&self.keys.mac).unwrap();
+        writer.put(&self.keys.enc).unwrap();
+        writer.put_u64(self.boot).unwrap();
+        writer.put_u64(self.start).unwrap();
+        writer.put(&entry_bytes(self.log.newest())).unwrap();
+        writer.put(&entry_bytes(self.log.older())).unwrap();
+        writer.put(&[0; 7]).unwrap();
         bytes
     }
 

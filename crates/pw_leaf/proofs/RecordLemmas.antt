@@ -5,8 +5,9 @@ use Rattle.std.specs.List.{list_all}
 use Rattle.std.specs.Int.{w16, w32, w64, to_be_bytes, from_be_bytes}
 use Rattle.std.proofs.lemmas.Bool.{cases_eq, and_from}
 use Rattle.std.proofs.lemmas.Slice.Eq.{bytes_eq-Decides}
-use Rattle.std.proofs.lemmas.List.{take_at, drop_at, length-append, length-drop, length-replicate, drop-drop, append_assoc}
+use Rattle.std.proofs.lemmas.List.{take_at, drop_at, length-append, length-drop, length-replicate, append_assoc}
 use Rattle.std.proofs.lemmas.Nat.{from_be_bytes-to_be_bytes_2, from_be_bytes-to_be_bytes_4, from_be_bytes-to_be_bytes_8}
+use Rattle.ct_bytes.proofs.FieldLemmas.{drop_past, take_there}
 use Rattle.aes_core.specs.Counter.{gctr}
 use Rattle.aes_core.proofs.StreamLemmas.{length-gctr, gctr-gctr}
 use Rattle.hmac_sha.specs.Hmac.{hmac}
@@ -26,14 +27,6 @@ unfolding leaf_mac
 length-leaf_mac keys x = length-hmac keys.mac (leaf_text keys x)
 
 -- ---- where each field stands
-
--- what stands behind a part of k bytes
-pub drop_past : (n k m : ℕ) (b front rest : List ℕ) → n + k ≡ m → drop n b ≡ front ++ rest → length front ≡ k → drop m b ≡ rest
-drop_past n k m b front rest s e l = ap (λ i. drop i b) (sym s) ∙ sym (drop-drop k n b) ∙ ap (drop k) e ∙ drop_at front rest k l
-
--- a part of k bytes that stands at a place
-pub take_there : (n k : ℕ) (b front rest : List ℕ) → drop n b ≡ front ++ rest → length front ≡ k → take k (drop n b) ≡ front
-take_there n k b front rest e l = ap (take k) e ∙ take_at front rest k l
 
 record Laid (keys : ChipKeys) (x : Contents) (b : List ℕ) : Type 0 where
   version : slice_index b 0 ≡ 1

@@ -1,6 +1,6 @@
-//! Fields of a record: where they stand, how they are written and read. Numbers are big-endian.
+//! Fields of a record: where they stand, and how they are read. Numbers are big-endian.
 
-ghost use Rattle.std.specs.Prelude.{◌≡◌, ◌+◌, ◌≤◌, ◌++◌, length, take, drop};
+ghost use Rattle.std.specs.Prelude.{◌≡◌, ◌+◌, ◌≤◌, length, take, drop};
 ghost use Rattle.std.specs.Int.{w16, w32, w64, from_be_bytes};
 
 use pw_path::Hash;
@@ -25,15 +25,6 @@ pub(crate) const IV_AT: usize = 152;
 pub(crate) const SECRETS_AT: usize = 168;
 
 pub(crate) const MAC_AT: usize = 264;
-
-/// Writes a field at a place.
-pub fn put(bytes: &mut [u8], at: usize, field: &[u8])
-    requires { at + length field.now ≤ length bytes.old }
-    ensures front { take (at + length field.now) bytes.new ≡ take at bytes.old ++ field.now }
-    ensures rest { drop (at + length field.now) bytes.new ≡ drop (at + length field.now) bytes.old }
-{
-    bytes[at..at + field.len()].copy_from_slice(field);
-}
 
 /// The number of two bytes at a place.
 pub fn u16_at(bytes: &[u8], at: usize) -> u16

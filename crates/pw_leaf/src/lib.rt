@@ -18,5 +18,5 @@ pub use laws::{
     written_record_is_read,
 };
 pub use leaf::{LEAF_BYTES, Leaf, PublicLeaf};
-pub use read::{check, look};
+pub use read::{check, look, mac_in};
 pub use write::make;

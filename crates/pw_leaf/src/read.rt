@@ -8,6 +8,7 @@ ghost use Rattle.pw_leaf.specs.Reading.{
   iv_in,
   leaf_at,
   look_at,
+  mac_of,
   shaped,
   shape_fault,
   has_schedule,
@@ -26,7 +27,7 @@ use crate::keys::ChipKeys;
 use crate::leaf::{LEAF_BYTES, Leaf, PublicLeaf};
 use crate::write::hide;
 use hmac_sha::mac;
-use pw_path::Label;
+use pw_path::{Hash, Label};
 use pw_types::{MOST_PAIRS, Schedule, Stamp};
 
 /// Moments are below this.
@@ -74,6 +75,13 @@ pub fn look(bytes: &[u8]) -> Result<PublicLeaf, LeafFault>
         return Err(LeafFault::BadVersion(bytes[0]));
     }
     shown(bytes)
+}
+
+/// The MAC of a record, which is its label's value in the tree.
+pub fn mac_in(bytes: &[u8; LEAF_BYTES]) -> Hash
+    ensures { result ≡ mac_of bytes.now }
+{
+    hash_at(bytes, MAC_AT)
 }
 
 // The public part of a record of 296 bytes.

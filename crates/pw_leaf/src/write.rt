@@ -3,15 +3,13 @@
 ghost use Rattle.std.specs.Prelude.{◌≡◌, ◌<◌, ◌^◌, ◌++◌};
 ghost use Rattle.aes_core.specs.Counter.{gctr};
 ghost use Rattle.pw_leaf.specs.Contents.{contents_of, new_contents};
-ghost use Rattle.pw_leaf.specs.LeafBytes.{leaf_bytes, open_part, secret_part, pairs_field};
+ghost use Rattle.pw_leaf.specs.LeafBytes.{leaf_bytes, leaf_text, open_part, secret_part, pairs_field};
 
-use crate::fields::{
-    BOOT_AT, COUNT_AT, IV_AT, LABEL_AT, MAC_AT, MOMENT_AT, PAIRS_AT, SECRETS_AT, VERSION, WRONG_AT,
-    put,
-};
+use crate::fields::{MAC_AT, SECRETS_AT, VERSION};
 use crate::keys::{ChipKeys, NewLeafSecrets};
 use crate::leaf::{LEAF_BYTES, Leaf};
 use aes_core::Aes256;
+use ct_bytes::Writer;
 use hmac_sha::mac;
 use pw_path::Label;
 use pw_types::{Schedule, Stamp};
@@ -43,41 +41,66 @@ pub fn make(
 }
 
 // The record of a leaf whose secrets are hidden under this block. The leaf's own MAC isn't read.
+#[tactic(auto, unfolding(crate::specs::LeafBytes::leaf_bytes, crate::specs::LeafBytes::leaf_mac))]
 pub(crate) fn written(keys: &ChipKeys, leaf: &Leaf, iv: [u8; 16]) -> [u8; LEAF_BYTES]
     ensures { result ≡ leaf_bytes keys.now (contents_of leaf.now iv) }
 {
+    let text = leaf_text(keys, leaf, iv);
+    let signed = mac(&keys.mac, &text);
     let mut record = [0; LEAF_BYTES];
-    put(&mut record, 0, &open_part(leaf, iv));
-    put(&mut record, SECRETS_AT, &secret_part(keys, leaf, iv));
-    let (text, _) = record.split_at(MAC_AT);
-    let signed = mac(&keys.mac, text);
-    put(&mut record, MAC_AT, &signed);
+    let mut writer = Writer::new(&mut record);
+    writer.put(&text).unwrap();
+    writer.put(&signed).unwrap();
     record
 }
 
-fn open_part(leaf: &Leaf, iv: [u8; 16]) -> [u8; 168]
+// What the MAC is over.
+#[tactic(auto, unfolding(crate::specs::LeafBytes::leaf_text))]
+fn leaf_text(keys: &ChipKeys, leaf: &Leaf, iv: [u8; 16]) -> [u8; MAC_AT]
+    ensures { result ≡ leaf_text keys.now (contents_of leaf.now iv) }
+{
+    let mut text = [0; MAC_AT];
+    let mut writer = Writer::new(&mut text);
+    writer.put(&open_part(leaf, iv)).unwrap();
+    writer.put(&secret_part(keys, leaf, iv)).unwrap();
+    text
+}
+
+#[tactic(auto, unfolding(crate::specs::LeafBytes::open_part))]
+fn open_part(leaf: &Leaf, iv: [u8; 16]) -> [u8; SECRETS_AT]
     ensures { result ≡ open_part (contents_of leaf.now iv) }
 {
-    let mut part = [0; 168];
-    put(&mut part, 0, &[VERSION]);
-    put(&mut part, LABEL_AT, &leaf.label.number().to_be_bytes());
-    put(&mut part, COUNT_AT, &[leaf.schedule.pairs().len() as u8]);
-    put(&mut part, PAIRS_AT, &pairs_field(&leaf.schedule));
-    put(&mut part, WRONG_AT, &leaf.wrong.to_be_bytes());
-    put(&mut part, BOOT_AT, &leaf.last.boot.to_be_bytes());
-    put(&mut part, MOMENT_AT, &leaf.last.at.to_be_bytes());
-    put(&mut part, IV_AT, &iv);
+    let mut part = [0; SECRETS_AT];
+    let mut writer = Writer::new(&mut part);
+    writer.put_u8(VERSION).unwrap();
+    writer.put_u16(leaf.label.number()).unwrap();
+    writer.put_u8(leaf.schedule.pairs().len() as u8).unwrap();
+    writer.put(&pairs_field(&leaf.schedule)).unwrap();
+    writer.put_u32(leaf.wrong).unwrap();
+    writer.put_u64(leaf.last.boot).unwrap();
+    writer.put_u64(leaf.last.at).unwrap();
+    writer.put(&iv).unwrap();
     part
 }
 
+#[tactic(auto, unfolding(crate::specs::LeafBytes::secret_part))]
 fn secret_part(keys: &ChipKeys, leaf: &Leaf, iv: [u8; 16]) -> [u8; 96]
     ensures { result ≡ secret_part keys.now (contents_of leaf.now iv) }
 {
-    let mut part = [0; 96];
-    put(&mut part, 0, &leaf.les);
-    put(&mut part, 32, &leaf.hes);
-    put(&mut part, 64, &leaf.reset);
+    let mut part = secrets(leaf);
     hide(keys, iv, &mut part);
+    part
+}
+
+// The three secrets, one after another.
+fn secrets(leaf: &Leaf) -> [u8; 96]
+    ensures { result ≡ leaf.now.les ++ leaf.now.hes ++ leaf.now.reset }
+{
+    let mut part = [0; 96];
+    let mut writer = Writer::new(&mut part);
+    writer.put(&leaf.les).unwrap();
+    writer.put(&leaf.hes).unwrap();
+    writer.put(&leaf.reset).unwrap();
     part
 }
 
@@ -92,11 +115,10 @@ fn pairs_field(schedule: &Schedule) -> [u8; 128]
     ensures { result ≡ pairs_field schedule.now }
 {
     let mut field = [0; 128];
-    let pairs = schedule.pairs();
-    for index in 0..pairs.len() {
-        let (attempts, seconds) = pairs[index];
-        put(&mut field, 8 * index, &attempts.to_be_bytes());
-        put(&mut field, 8 * index + 4, &seconds.to_be_bytes());
+    let mut writer = Writer::new(&mut field);
+    for (attempts, seconds) in schedule.pairs() {
+        writer.put_u32(*attempts).unwrap();
+        writer.put_u32(*seconds).unwrap();
     }
     field
 }
