@@ -1,0 +1,7 @@
+//! The host's tree of hashes over all credential labels.
+#![tactic(auto)]
+
+mod nodes;
+mod tree;
+
+pub use tree::Tree;

@@ -1,0 +1,5 @@
+//! Tests of the host's tree.
+#![tactic(auto)]
+
+#[cfg(test)]
+mod tree;
