@@ -5,8 +5,9 @@ use Rattle.std.proofs.lemmas.Bool.{lt-ltb, le-ltb, cases_eq, cases_lt}
 use Rattle.std.proofs.lemmas.List.{get_or-take, take_more_set, length-take-le}
 use Rattle.std.proofs.Math.ListN.{get_or-eq_default}
 use Rattle.sha2.specs.Sha256.{sha256}
-use Rattle.pw_path.specs.Tree.{node_input, node_at, children_at, root, others, siblings, aux_of, no_hash}
-use Rattle.pw_path.proofs.TreeLemmas.{node_at_one_more, set_value_other}
+use Rattle.pw_path.specs.Tree.{node_input, node_at, children_at, root, others, siblings, aux_of, AgreeBut, no_hash}
+use Rattle.pw_path.specs.Path.{root_of}
+use Rattle.pw_path.proofs.TreeLemmas.{node_at_one_more, root_of_changed, set_value_other, set_value_same}
 use Rattle.label_tree.specs.Values.{value_in, with_value, IsLeastFree, used_below}
 use Rattle.label_tree.specs.Nodes.{level_of, four, IsNode, AreNodesBut, IsKept, rows_at, places_above}
 
@@ -193,6 +194,12 @@ changed_values old new label x lt so sn each =
       | inr h ↦ past_end new i sn h ∙ sym (past_end old i so h) ∙ sym (set_value_other (value_in (take 16384 old)) label x i (λ e. omega arith))
     ] in
     λ j i. at i j
+
+-- the root with another value at a label is that of its path
+pub root_with : (values : ℕ → List ℕ) (label : ℕ) (hash : List ℕ) → label < 16384 → root_of label hash (aux_of values label) ≡ root (with_value values label hash)
+unfolding AgreeBut
+root_with values label hash lt =
+    root_of_changed values (with_value values label hash) label hash lt (λ j ne. set_value_other values label hash j ne) (set_value_same values label hash)
 
 -- where no label has a value, the whole is the empty one
 pub empty_values : (nodes : List (List ℕ)) → length nodes ≡ 21845 → ((i : ℕ) → i < 16384 → value_in nodes i ≡ no_hash) → value_in (take 16384 nodes) ≡ (λ _. no_hash)

@@ -4,4 +4,5 @@
 mod nodes;
 mod tree;
 
+pub use nodes::NO_HASH;
 pub use tree::Tree;

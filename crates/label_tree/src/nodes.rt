@@ -21,7 +21,7 @@ pub(crate) const ROOT: usize = 21_844;
 pub(crate) const PLACES: usize = 21_845;
 
 /// The value of a label that isn't used.
-pub(crate) const NO_HASH: Hash = [0; 32];
+pub const NO_HASH: Hash = [0; 32];
 
 // Makes the nodes those of a tree in which no label is used.
 pub(crate) fn empty_all(nodes: &mut [Hash])

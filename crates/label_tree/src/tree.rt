@@ -6,7 +6,7 @@ ghost use Rattle.label_tree.specs.Values.{value_in, with_value, IsLeastFree, use
 
 use crate::nodes::{NO_HASH, PLACES, ROOT, empty_all, least_free, renew, siblings, used_count};
 use ct_bytes::NoMemory;
-use pw_path::{Aux, Hash, Label};
+use pw_path::{Aux, Hash, Label, root_of};
 use std::alloc::Global;
 use std::marker::Model;
 
@@ -60,6 +60,13 @@ impl Tree {
         ensures { result ≡ value_in self.now label }
     {
         self.nodes[label.number() as usize]
+    }
+
+    /// The root that the tree has once a label has this value. The tree stays as it is.
+    pub fn root_with(&self, label: Label, mac: &Hash) -> Hash
+        ensures { result ≡ root (with_value (value_in self.now) label mac.now) }
+    {
+        root_of(label, mac, &siblings(&self.nodes, label))
     }
 
     /// Gives a label a value. Seven nodes are computed.

@@ -7,4 +7,4 @@ mod replaying;
 
 pub use laws::replay_ends_in_step;
 pub use planning::{entry_label, plan};
-pub use replaying::{Replay, apply};
+pub use replaying::{Replay, apply, root_after};
