@@ -1,0 +1,4 @@
+pub mod Devices
+pub mod LeafCalls
+pub mod Recovery
+pub mod Clean
