@@ -1,11 +1,11 @@
 -- A host that lacks the newest entry: what opening makes of it.
-use Rattle.std.proofs.Common.{◌≡◌, ◌≢◌, ℕ, ◌<◌, ◌^◌, true, false, cond, eqb, ◌||◌, Option, Some, None, List, refl, sym, ◌∙◌, ap, subst}
+use Rattle.std.proofs.Common.{◌≡◌, ◌≢◌, ℕ, ◌<◌, ◌^◌, inl, inr, true, false, cond, eqb, ◌||◌, Option, Some, None, List, refl, sym, ◌∙◌, ap, subst}
 use Rattle.std.specs.Prelude.{bytes_eq, unwrap_or}
 use Rattle.std.proofs.lemmas.Slice.Eq.{bytes_eq-Decides}
-use Rattle.std.proofs.lemmas.Bool.{lt-ltb}
+use Rattle.std.proofs.lemmas.Bool.{cases_eq, lt-ltb}
 use Rattle.pw_path.specs.Tree.{root, aux_of, AgreeBut, no_hash}
 use Rattle.pw_path.specs.Path.{root_of}
-use Rattle.pw_path.proofs.TreeLemmas.{root_of_true, aux_of_same, set_value_other}
+use Rattle.pw_path.proofs.TreeLemmas.{root_of_true, aux_of_same, set_value_other, set_value_same}
 use Rattle.pw_types.specs.declared.stamp.Stamp.{Stamp}
 use Rattle.pw_log.specs.declared.entry.LogEntry.{LogEntry}
 use Rattle.pw_log.specs.declared.entry.TheConstants.{BLANK, INSERT, REMOVE, RESET_TREE, TRY, RESET, NO_VERDICT}
@@ -31,9 +31,9 @@ use Rattle.pin_ops.specs.declared.answer.Resync.TheVariants as resync
 use Rattle.pin_ops.specs.Following.{IsFound}
 use Rattle.pin_ops.specs.Resyncing.{lost, redone, replayed, replay_of, put_if_noted, missing, resynced}
 use Rattle.pin_recovery.specs.Devices.{Leaves, Devices, tree_of, record_at, held_in, AreLeaves, AreInStep}
-use Rattle.pin_recovery.specs.Recovery.{resync_of, leaves_by, words_by, undone, Recovers}
+use Rattle.pin_recovery.specs.Recovery.{resync_of, leaves_by, words_by, tree_by, undone, Recovers}
 use Rattle.pin_recovery.proofs.ChipLemmas.{same_root, other_root}
-use Rattle.pin_recovery.proofs.LeafLemmas.{root_leaf, leaves_with, mac_is, held_written, opened_own}
+use Rattle.pin_recovery.proofs.LeafLemmas.{root_leaf, values_with, leaves_with, mac_is, held_written, opened_own}
 
 -- ---- the log's answer
 
@@ -54,18 +54,20 @@ resynced-behind w v leaf answer ne e reaches is =
 -- ---- opening by a known answer
 
 pub recovers_by : (d : Devices) (t : Leaves) (answer : Resync) → resync_of d ≡ answer → IsFound answer → leaves_by d.words.keys answer d.leaves ≡ t
+    → tree_by answer d.words.log.newest.mac (tree_of d) ≡ values d.words.keys t
     → ((now : ℕ) → now < 2 ^ 40 → AreInStep (record { words = words_by d.words (tree_of d) answer now; leaves = leaves_by d.words.keys answer d.leaves }))
     → Recovers d t
-recovers_by d t answer e found gives in_step = record {
+recovers_by d t answer e found gives tree in_step = record {
   found = subst IsFound (sym e) found;
   gives = ap (λ a. leaves_by d.words.keys a d.leaves) e ∙ gives;
+  tree = ap (λ a. tree_by a d.words.log.newest.mac (tree_of d)) e ∙ tree;
   in_step = λ now small. subst (λ a. AreInStep (record { words = words_by d.words (tree_of d) a now; leaves = leaves_by d.words.keys a d.leaves })) (sym e) (in_step now small);
 }
 
 -- devices that are in step open to their leaves
 pub in_step_recovers : (d : Devices) → AreInStep d → Recovers d d.leaves
 in_step_recovers d h =
-    recovers_by d d.leaves resync.InStep (resynced-in_step d.words (tree_of d) (record_at d.words.keys (d.leaves d.words.log.newest.label)) h.root) tt refl (λ now small. h)
+    recovers_by d d.leaves resync.InStep (resynced-in_step d.words (tree_of d) (record_at d.words.keys (d.leaves d.words.log.newest.label)) h.root) tt refl refl (λ now small. h)
 
 -- ---- a new log entry
 
@@ -128,6 +130,7 @@ leaf_behind d label x e h lt there el is changes room good own m r ne =
     let after : leaves_by keys (resync.Put e.label leaf) d.leaves ≡ t = ap (λ l. with_leaf d.leaves l (held_in keys leaf)) el ∙ ap (with_leaf d.leaves label) (held_written keys z good) in
     let leaves : AreLeaves t = leaves_with d.leaves label (Some z) h.leaves (λ y q. let same : z ≡ y = cc q in subst (λ u. IsContents u × (u.label ≡ label)) same (good, own)) in
     recovers_by (record { words = w; leaves = d.leaves }) t (resync.Put e.label leaf) behind tt after
+    (ap (λ l. with_value v l (mac_of leaf)) el ∙ values_with keys d.leaves label (Some z) (mac_of leaf) (mac_is keys z good))
     (λ now small. subst (λ u. AreInStep (record { words = w; leaves = u })) (sym after)
     (record { leaves = leaves; root = r ∙ ap (λ hash. root_of label hash (aux_of v label)) m ∙ root_leaf keys d.leaves label (Some z) lt; boot = h.boot }))
 
@@ -160,6 +163,16 @@ undone_in_step w t label now lt leaves boot zero r ne =
     let back : e.root ≡ root v = ap (root_of label no_hash) same ∙ ap (λ m. root_of label m (aux_of v label)) (sym zero) ∙ root_of_true v label lt in
     subst (λ (q : Reply × ChipState). AreInStep (record { words = q.1; leaves = t })) (sym done) (in_step_logged w t e leaves boot back)
 
+-- an empty label that was given a value, and lost it again
+taken_again : (v : ℕ → List ℕ) (label : ℕ) (hash : List ℕ) → v label ≡ no_hash → with_value (with_value v label hash) label no_hash ≡ v
+taken_again v label hash zero =
+    let at : (i : ℕ) → with_value (with_value v label hash) label no_hash i ≡ v i =
+    λ i. elim (cases_eq i label) [
+      | inl same ↦ rw same (set_value_same (with_value v label hash) label no_hash ∙ sym zero)
+      | inr ne ↦ set_value_other (with_value v label hash) label no_hash i ne ∙ set_value_other v label hash i ne
+    ] in
+    λ j i. at i j
+
 pub insert_behind : (d : Devices) (label : ℕ) (y : Contents) (stamp : Stamp) → AreInStep d → label < 16384 → tree_of d label ≡ no_hash
     → root_of label (leaf_mac d.words.keys y) (aux_of (tree_of d) label) ≢ d.words.log.newest.root
     → Recovers (record { words = with_entry d.words (leaf_entry d.words.keys INSERT NO_VERDICT label (aux_of (tree_of d) label) y stamp); leaves = d.leaves }) d.leaves
@@ -174,7 +187,7 @@ insert_behind d label y stamp h lt zero ne =
     let behind = resynced-behind w v leaf (resync.Inserted label) (λ q. ne (q ∙ sym h.root)) h.root (sym (root_with v label (leaf_mac keys y) lt)) answer in
     let used : leaf_mac keys y ≢ no_hash =
     λ q. ne (ap (λ m. root_of label m (aux_of v label)) (q ∙ sym zero) ∙ root_of_true v label lt ∙ sym h.root) in
-    recovers_by (record { words = w; leaves = d.leaves }) d.leaves (resync.Inserted label) behind tt refl
+    recovers_by (record { words = w; leaves = d.leaves }) d.leaves (resync.Inserted label) behind tt refl (taken_again v label (leaf_mac keys y) zero)
     (λ now small. undone_in_step w d.leaves label now lt h.leaves h.boot zero refl used)
 
 -- ---- one entry behind: a remove
@@ -189,5 +202,5 @@ remove_behind d label now h lt ne =
     let w = with_entry d.words (removal d.words label (aux_of v label) now) in
     let leaf = record_at keys (d.leaves label) in
     let behind = resynced-behind w v leaf (resync.Removed label) (λ q. ne (q ∙ sym h.root)) h.root (sym (root_with v label no_hash lt)) refl in
-    recovers_by (record { words = w; leaves = d.leaves }) (with_leaf d.leaves label None) (resync.Removed label) behind tt refl
+    recovers_by (record { words = w; leaves = d.leaves }) (with_leaf d.leaves label None) (resync.Removed label) behind tt refl (values_with keys d.leaves label None no_hash refl)
     (λ at small. record { leaves = leaves_with d.leaves label None h.leaves (λ x q. cc q); root = root_leaf keys d.leaves label None lt; boot = h.boot })

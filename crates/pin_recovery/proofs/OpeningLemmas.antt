@@ -107,7 +107,7 @@ booted_by w moment v (resync.Lost host chip) now t h = booted_in_step (record { 
 pub booted_recovers : (d : Devices) (t : Leaves) (moment : ℕ) → Recovers d t → Recovers (booted_devices d moment) t
 booted_recovers d t moment r =
     let v = tree_of d in
-    recovers_by (booted_devices d moment) t (resync_of d) (resync_booted d.words moment v (record_at d.words.keys (d.leaves d.words.log.newest.label))) r.found r.gives
+    recovers_by (booted_devices d moment) t (resync_of d) (resync_booted d.words moment v (record_at d.words.keys (d.leaves d.words.log.newest.label))) r.found r.gives r.tree
     (λ now small. booted_by d.words moment v (resync_of d) now (leaves_by d.words.keys (resync_of d) d.leaves) (r.in_step now small))
 
 -- what is recovered recovers itself

@@ -1,15 +1,16 @@
 -- What opening makes of the two devices as a crash left them.
 use Rattle.std.specs.Prelude.{◌≡◌, ◌⊎◌, ℕ, ◌<◌, ◌^◌, None, List}
-use Rattle.pw_path.specs.Tree.{aux_of}
+use Rattle.pw_path.specs.Tree.{aux_of, no_hash}
 use Rattle.pw_leaf.specs.declared.keys.ChipKeys.{ChipKeys}
 use Rattle.pw_chip.specs.State.{ChipState, booted}
 use Rattle.pw_chip.specs.Calls.{Remove}
 use Rattle.pw_chip.specs.Step.{step}
 use Rattle.pw_chip.specs.Ledger.{with_leaf}
+use Rattle.pw_chip.specs.Law.{values}
 use Rattle.label_tree.specs.Values.{with_value}
 use Rattle.pin_ops.specs.declared.answer.Resync.{Resync}
 use Rattle.pin_ops.specs.declared.answer.Resync.TheVariants.{InStep, Inserted, Put, Removed, Emptied, Lost}
-use Rattle.pin_ops.specs.Following.{IsFound}
+use Rattle.pin_ops.specs.Following.{values_by, IsFound}
 use Rattle.pin_ops.specs.Resyncing.{resynced}
 use Rattle.pin_recovery.specs.Devices.{Leaves, Devices, tree_of, record_at, held_in, AreInStep}
 
@@ -34,14 +35,20 @@ abbrev pub words_by : ChipState → (ℕ → List ℕ) → Resync → ℕ → Ch
 words_by w values (Inserted label) now = undone w values label now
 words_by w values _ now = w
 
+-- the host's tree once the answer is carried out: an insert that is undone leaves its label empty
+abbrev pub tree_by : Resync → List ℕ → (ℕ → List ℕ) → ℕ → List ℕ
+tree_by (Inserted label) mac values = with_value (with_value values label mac) label no_hash
+tree_by answer mac values = values_by answer mac values
+
 -- the two devices after opening, at a moment
 abbrev pub recovered : Devices → ℕ → Devices
 recovered d now = record { words = words_by d.words (tree_of d) (resync_of d) now; leaves = leaves_by d.words.keys (resync_of d) d.leaves }
 
--- Opening these two devices brings them in step, with these leaves.
+-- Opening these two devices brings them in step, with these leaves and their tree.
 pub record Recovers (d : Devices) (leaves : Leaves) : Type 0 where
   pub found : IsFound (resync_of d)
   pub gives : leaves_by d.words.keys (resync_of d) d.leaves ≡ leaves
+  pub tree : tree_by (resync_of d) d.words.log.newest.mac (tree_of d) ≡ values d.words.keys leaves
   pub in_step : (now : ℕ) → now < 2 ^ 40 → AreInStep (recovered d now)
 
 -- the words are stored, and the record isn't yet put or removed
