@@ -1,4 +1,4 @@
-mod ChipLemmas
+pub mod ChipLemmas
 pub mod LeafLemmas
 pub mod BehindLemmas
 pub mod AtomicLemmas
