@@ -1,5 +1,5 @@
 -- What files have under a name after a change.
-use Rattle.std.proofs.Common.{◌≡◌, ◌≢◌, ℕ, List, None, Some, refl, ap, ◌∙◌, false}
+use Rattle.std.proofs.Common.{◌≡◌, ◌≢◌, ◌⊎◌, inl, inr, ℕ, List, None, Some, refl, ap, ◌∙◌, false}
 use Rattle.std.proofs.Common.{cond, rules}
 use Rattle.std.specs.Ordering.{nat_cmp, is_eq, eq_by_cmp}
 use Rattle.std.specs.Cmp.Lexicographic.{slice_cmp, nat_list_cmp_total}
@@ -8,14 +8,23 @@ use Rattle.std.specs.FinMap.{get, insert, remove, gets, get-insert, get-remove}
 use Rattle.std.specs.FinMap.{slice_cmp-IsAntisymmetric, nat_cmp-IsAntisymmetric}
 use Rattle.board_model.specs.Files.{Files, renamed, moved_to}
 
+-- names are the same, or they don't tie
+pub same_or_apart : (q name : List ℕ)
+    → (q ≡ name) ⊎ (eq_by_cmp (slice_cmp nat_cmp) q name ≡ false)
+same_or_apart q name =
+    elim (slice_cmp nat_cmp q name) as (λ r. slice_cmp nat_cmp q name ≡ r → (q ≡ name) ⊎ (is_eq r ≡ false)) [
+      | Less ↦ λ p. inr refl
+      | Equal ↦ λ p. inl (slice_cmp-IsAntisymmetric nat_cmp-IsAntisymmetric q name p)
+      | Greater ↦ λ p. inr refl
+    ] refl
+
 -- names that differ don't tie
 pub apart : (q name : List ℕ) → q ≢ name → eq_by_cmp (slice_cmp nat_cmp) q name ≡ false
 apart q name ne =
-    elim (slice_cmp nat_cmp q name) as (λ r. slice_cmp nat_cmp q name ≡ r → is_eq r ≡ false) [
-      | Less ↦ λ p. refl
-      | Equal ↦ λ p. absurd (ne (slice_cmp-IsAntisymmetric nat_cmp-IsAntisymmetric q name p))
-      | Greater ↦ λ p. refl
-    ] refl
+    elim (same_or_apart q name) [
+      | inl same ↦ absurd (ne same)
+      | inr untied ↦ untied
+    ]
 
 pub get-inserted : (files : Files) (name bytes : List ℕ)
     → get (insert files name bytes) name ≡ Some bytes

@@ -66,6 +66,7 @@ pub trait Board {
 
     /// Makes a temporary file last: after `Ok` it is whole in each image that has it.
     fn sync_temp(&mut self, name: &str) -> Result<(), Failed>
+        requires { IfSome (disk self.old).now (λ now. IsTrue (contains_key now.files name.now)) }
         // Each image lacks the file, or has what is there now.
         ensures whole { OnOk result ((i : Image) → (disk self.new).may_leave i
             → (get i.files name.now ≡ None) ⊎ IsWholeIn name.now (disk self.new).now i) }
@@ -127,6 +128,10 @@ pub trait Board {
     /// What a crash may leave now, it might have left since any earlier moment.
     ghost counts_now: { (board : Self) (t : ℕ) (i : Image) → t ≤ (disk board).ticks
         → (disk board).may_leave i → (disk board).left_since t i };
+
+    /// What a crash might have left since a moment, it might have left since any earlier one.
+    ghost since_earlier: { (board : Self) (t u : ℕ) (i : Image) → t ≤ u
+        → (disk board).left_since u i → (disk board).left_since t i };
 
     /// Since this very moment there is nothing else.
     ghost only_now: { (board : Self) (i : Image)

@@ -124,6 +124,8 @@ impl<R: Files + AllocGlobal + Clone + Drop> Board for FileBoard<R> {
 
     ghost counts_now = { λ b t i le is. is };
 
+    ghost since_earlier = { λ b t u i le was. was };
+
     ghost only_now = { λ b i was. was };
 
     ghost synced_now = { λ b i is. is };

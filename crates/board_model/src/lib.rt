@@ -4,8 +4,6 @@
 mod board;
 mod file_board;
 mod real_folder;
-#[cfg(test)]
-mod tests;
 
 pub use board::{Board, BoardFault};
 pub use file_board::FileBoard;

@@ -12,7 +12,7 @@ use Rattle.board_model.proofs.Effects.{goes_or_not_weaker}
 use Rattle.board_model.proofs.Names.{get-inserted, get-removed, get-insert_other, get-remove_other}
 use Rattle.mem_board.specs.Calls.{changed, now_of, mended, SyncedBy, IsSynced, ImageBy}
 use Rattle.mem_board.specs.Calls.{IsImage, disk_of, InCall, DoneAs}
-use Rattle.mem_board.specs.CallLaws.{only_newest, synced_is_image, get-insert_apart}
+use Rattle.mem_board.specs.CallLaws.{only_newest, synced_is_image}
 use Rattle.mem_board.specs.Memory.{Memory, disk, next_outcome, Looks, Changes}
 use Rattle.mem_board.specs.declared.call.Call.{Call}
 use Rattle.mem_board.specs.declared.call.Change.{Change}
@@ -97,7 +97,7 @@ leaves_call first calls call = record {
 
 done_now : (change : Change) (i : Image) → DoneAs change i (changed change i)
 done_now (Write name bytes) i =
-    record { words = refl; others = λ q ne. get-insert_apart i.files name bytes q ne }
+    record { words = refl; others = λ q ne. get-insert_other i.files name bytes q ne }
 done_now (SyncTemp name) i = same_but name i i refl
 done_now (Rename from to) i = refl
 done_now (Remove name) i = refl

@@ -1,11 +1,11 @@
 -- A tree of files against the finite map that it is seen as.
-use Rattle.std.proofs.Common.{◌≡◌, ◌≢◌, ◌⊎◌, inl, inr, ℕ, List, [], ◌∷◌, map, Option, None, Some}
+use Rattle.std.proofs.Common.{◌≡◌, ◌≢◌, inl, inr, ℕ, List, [], ◌∷◌, map, Option, None, Some}
 use Rattle.std.proofs.Common.{Bool, true, false, length, arith, cond, refl, sym, ap, ◌∙◌, subst}
 use Rattle.std.specs.Ordering.{nat_cmp, is_eq, eq_by_cmp}
 use Rattle.std.specs.Cmp.{eq_by_cmp_equiv}
 use Rattle.std.specs.Cmp.Lexicographic.{slice_cmp, nat_list_cmp_total}
 use Rattle.std.specs.declared.cmp.Ordering.{Ordering}
-use Rattle.std.specs.declared.cmp.Ordering.TheVariants.{Less, Equal, Greater}
+use Rattle.std.specs.declared.cmp.Ordering.TheVariants.{Less}
 use Rattle.std.specs.FinMap.{IsAntisymmetric, empty, get, insert, remove, find, put, entries, from_entries, keys}
 use Rattle.std.specs.FinMap.{same_map, get-empty, get-insert, get-remove, get-from_entries}
 use Rattle.std.specs.FinMap.{entries-insert, len-entries, len-empty}
@@ -16,7 +16,7 @@ use Rattle.std.specs.List.{AllByRecursion}
 use Rattle.std.specs.List.Sorted.{IsStrictlySortedBy}
 use Rattle.std.specs.Map.{lookup}
 use Rattle.board_model.specs.Files.{Files, renamed}
-use Rattle.board_model.proofs.Names.{apart, renamed_there}
+use Rattle.board_model.proofs.Names.{same_or_apart, apart, renamed_there}
 use Rattle.mem_board.specs.FileList.{with_files}
 
 abbrev pub by_name : List ℕ → List ℕ → Ordering
@@ -61,15 +61,6 @@ pub removed : (m n : BTreeMap (List ℕ) (List ℕ)) (k : List ℕ)
     → UpdatesBy by_name (by_name k) m n None
     → from_entries {R = by_name} n.entries ≡ remove (from_entries m.entries) k
 removed m n k u = updated m n k None _ u (get-remove nat_list_cmp_total _ k)
-
--- names tie or are apart
-same_or_apart : (q name : List ℕ) → (q ≡ name) ⊎ (eq_by_cmp by_name q name ≡ false)
-same_or_apart q name =
-    elim (by_name q name) as (λ r. by_name q name ≡ r → (q ≡ name) ⊎ (is_eq r ≡ false)) [
-      | Less ↦ λ p. inr refl
-      | Equal ↦ λ p. inl (same_names q name p)
-      | Greater ↦ λ p. inr refl
-    ] refl
 
 not_both_values : true ≡ false → ⊥
 not_both_values e = subst (λ b. elim b as (λ _. Type 0) [ true ↦ Unit {0} | false ↦ ⊥ ]) e tt

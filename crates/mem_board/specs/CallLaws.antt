@@ -1,16 +1,16 @@
 -- The laws of the images of a board in memory. (They are proved here, as the board's laws cite them.)
-use Rattle.std.specs.Prelude.{◌≡◌, ◌≢◌, ◌⊎◌, ℕ, List, [], ◌∷◌, length, Option, None, Some}
+use Rattle.std.specs.Prelude.{◌≡◌, ◌⊎◌, ℕ, ◌≤◌, List, [], ◌∷◌, length, Option, None, Some}
 use mathlib.Core.Logic.{inl, inr}
 use mathlib.Core.Path.{refl, sym, ap, ◌∙◌}
 use native.Mathlib.Omega.{arith}
 use mathlib.Core.Bool.{Bool, true, false, cond}
-use Rattle.std.specs.Ordering.{nat_cmp, is_eq, eq_by_cmp}
+use Rattle.std.specs.Ordering.{nat_cmp, eq_by_cmp}
 use Rattle.std.specs.Cmp.Lexicographic.{slice_cmp, nat_list_cmp_total}
-use Rattle.std.specs.declared.cmp.Ordering.TheVariants.{Less, Equal, Greater}
-use Rattle.std.specs.FinMap.{get, insert, get-insert, get-remove, same_map}
+use Rattle.std.specs.FinMap.{get, get-insert, get-remove, same_map}
 use Rattle.std.specs.FinMap.{slice_cmp-IsAntisymmetric, nat_cmp-IsAntisymmetric}
 use Rattle.board_model.specs.Files.{Files, with_content}
 use Rattle.board_model.specs.Disk.{Image}
+use Rattle.board_model.proofs.Names.{same_or_apart, get-insert_other}
 use Rattle.mem_board.specs.Calls.{changed, changed_by, now_of, SyncedBy, IsSynced, ImageBy}
 use Rattle.mem_board.specs.Calls.{IsImage, WasImage}
 use Rattle.mem_board.specs.declared.call.Call.{Call}
@@ -23,6 +23,12 @@ use Rattle.mem_board.specs.declared.call.Outcome.TheVariants.{Done, FailedDone, 
 pub counted : (first : Image) (calls : List Call) (t : ℕ) (i : Image) → IsImage first calls i → WasImage first calls t i
 counted first [] t i is = is
 counted first (call ∷ calls) t i is = inl is
+
+pub was_earlier : (first : Image) (calls : List Call) (t u : ℕ) (i : Image) → t ≤ u → WasImage first calls u i → WasImage first calls t i
+was_earlier first [] t u i le was = was
+was_earlier first (call ∷ calls) t u i le (inl is) = inl is
+was_earlier first (call ∷ calls) t u i le (inr h) =
+    inr (omega (arith, le, h.0), was_earlier first calls t u i le h.1)
 
 pub only_newest : (first : Image) (calls : List Call) (i : Image) → WasImage first calls (length calls) i → IsImage first calls i
 only_newest first [] i was = was
@@ -52,25 +58,6 @@ pub synced_is_image : (first : Image) (calls : List Call) (i : Image) → IsSync
 synced_is_image first [] i h = h
 synced_is_image first (call ∷ calls) i h = synced_step call.change call.outcome (now_of first calls) (IsSynced first calls) (IsImage first calls) (synced_is_image first calls) i h
 
--- a name that ties is the same name
-tied_or_apart : (q name : List ℕ) → (q ≡ name) ⊎ (eq_by_cmp (slice_cmp nat_cmp) q name ≡ false)
-tied_or_apart q name =
-    elim (slice_cmp nat_cmp q name) as (λ r. slice_cmp nat_cmp q name ≡ r → (q ≡ name) ⊎ (is_eq r ≡ false)) [
-      | Less ↦ λ p. inr refl
-      | Equal ↦ λ p. inl (slice_cmp-IsAntisymmetric nat_cmp-IsAntisymmetric q name p)
-      | Greater ↦ λ p. inr refl
-    ] refl
-
-pub get-insert_apart : (files : Files) (name bytes q : List ℕ) → q ≢ name
-    → get (insert files name bytes) q ≡ get files q
-get-insert_apart files name bytes q ne =
-    elim (tied_or_apart q name) [
-      | inl e ↦ absurd (ne e)
-      | inr apart ↦
-          get-insert nat_list_cmp_total files name bytes q
-          ∙ ap (λ b. cond b (Some bytes) (get files q)) apart
-    ]
-
 same_choice : {A : Type 0} (x : Option A) (b : Bool) → cond b x x ≡ x
 same_choice x true = refl
 same_choice x false = refl
@@ -79,7 +66,7 @@ same_choice x false = refl
 kept_at : (files : Files) (name q : List ℕ) (o : Option (List ℕ)) → get files name ≡ o
     → cond (eq_by_cmp (slice_cmp nat_cmp) q name) o (get files q) ≡ get files q
 kept_at files name q o is =
-    elim (tied_or_apart q name) [
+    elim (same_or_apart q name) [
       | inl same ↦
           ap (λ x. cond (eq_by_cmp (slice_cmp nat_cmp) q name) x (get files q)) (sym is ∙ ap (get files) (sym same))
           ∙ same_choice (get files q) (eq_by_cmp (slice_cmp nat_cmp) q name)
@@ -96,8 +83,8 @@ with_content_kept files name (Some bytes) is =
     get-insert nat_list_cmp_total files name bytes q ∙ kept_at files name q (Some bytes) is)
 
 now_step : (change : Change) (outcome : Outcome) (now : Image) (synced : Image → Type 0) → synced now → SyncedBy change outcome now synced (changed_by change outcome now)
-now_step (Write name bytes) Done now synced is = (now, is, record { words = refl; others = λ q ne. get-insert_apart now.files name bytes q ne })
-now_step (Write name bytes) FailedDone now synced is = (now, is, record { words = refl; others = λ q ne. get-insert_apart now.files name bytes q ne })
+now_step (Write name bytes) Done now synced is = (now, is, record { words = refl; others = λ q ne. get-insert_other now.files name bytes q ne })
+now_step (Write name bytes) FailedDone now synced is = (now, is, record { words = refl; others = λ q ne. get-insert_other now.files name bytes q ne })
 now_step (Write name bytes) FailedNot now synced is = (now, is, record { words = refl; others = λ q ne. refl })
 now_step (SyncTemp name) Done now synced is = (now, is, ap (λ (f : Files). record { files = f; words = now.words }) (sym (with_content_kept now.files name (get now.files name) refl)))
 now_step (SyncTemp name) FailedDone now synced is = is

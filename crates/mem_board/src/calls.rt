@@ -51,13 +51,17 @@ fn removal_of(alloc: Global, name: &str) -> Result<Change, NoMemory>
 
 impl Board for MemBoard {
     ghost use Rattle.mem_board.specs.Memory.{memory_of, faults_of, disk_at};
-    ghost use Rattle.mem_board.specs.CallLaws.{counted, only_newest, synced_is_image, now_is_image};
+    ghost use Rattle.mem_board.specs.CallLaws.{counted, was_earlier, only_newest};
+    ghost use Rattle.mem_board.specs.CallLaws.{synced_is_image, now_is_image};
 
     ghost disk = { λ b. disk_at b };
 
     ghost faults = { λ b. faults_of b };
 
     ghost counts_now = { λ b t i le is. counted (memory_of b).first (memory_of b).calls t i is };
+
+    ghost since_earlier = { λ b t u i le was.
+        was_earlier (memory_of b).first (memory_of b).calls t u i le was };
 
     ghost only_now = { λ b i was. only_newest (memory_of b).first (memory_of b).calls i was };
 
@@ -117,6 +121,7 @@ impl Board for MemBoard {
     }
 
     fn sync_temp(&mut self, name: &str) -> Result<(), Failed>
+        requires { IfSome (disk_at self.old).now (λ now. IsTrue (contains_key now.files name.now)) }
         ensures whole { OnOk result ((i : Image) → (disk_at self.new).may_leave i
             → (get i.files name.now ≡ None) ⊎ IsWholeIn name.now (disk_at self.new).now i) }
         ensures synced { OnOk result ((i : Image) → (disk_at self.new).once_synced i

@@ -10,8 +10,6 @@ mod fail;
 mod file_map;
 mod start;
 mod stored;
-#[cfg(test)]
-mod tests;
 
 pub use board::MemBoard;
 pub use fail::Fail;

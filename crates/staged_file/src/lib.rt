@@ -3,8 +3,6 @@
 
 mod putting;
 mod removing;
-#[cfg(test)]
-mod tests;
 
 pub use putting::put;
 pub use removing::remove;

@@ -1,4 +1,4 @@
-use Rattle.std.proofs.Common.{inl, inr, Some}
+use Rattle.std.proofs.Common.{inl, inr, Some, refl}
 use Rattle.std.proofs.lemmas.Result.{on_ok_weaker}
 use Rattle.staged_file.specs.Staged.{Replaced, KeptOr}
 use Rattle.staged_file.proofs.Staging.{leaves_same, goes_on, durable_by}
@@ -47,6 +47,10 @@ returns-in_err-sync_temp-clause-done_or_not g c =
     inl (goes_sync t n bs is pl _ _ _ c.write_temp.ensures.goes c.sync_temp.ensures.goes)
 
 -- the temporary file was written, so it is there
+
+pub sync_temp-requires : goal.sync_temp-requires
+sync_temp-requires g c =
+    is_there _ _ _ _ c.args.bytes.now c.in_ok-write_temp.ensures.written refl
 
 pub rename-requires : goal.rename-requires
 rename-requires g c =

@@ -1,39 +1,27 @@
 //! A staged put and a removal that a crash or a fault stops, by a table of all of them.
 
-use board_model::{Board, BoardFault};
-use ct_bytes::{Blob, NoMemory, Text};
+use crate::support::{Outcome, board_of, has};
+use ct_bytes::NoMemory;
 use fault_count::Failed;
 use mem_board::{Fail, MemBoard};
 use std::alloc::Global;
 use std::test;
 
-type Outcome = Result<(), test::Fail>;
-
 // A board with the file `a` of these bytes, or without it where they are `-`.
-fn board_of(alloc: Global, old: &str, fails: &[Fail]) -> Result<MemBoard, NoMemory> {
-    let mut files = Vec::new(alloc);
-    if old != "-" {
-        let name = Text::from_str(alloc, "a")?;
-        let bytes = Blob::from_slice(alloc, old.as_bytes())?;
-        files.push((name, bytes))?;
-    }
-    MemBoard::new(alloc, files, [0; 256], fails.to_vec(alloc)?)
-}
-
-// Whether the file `a` has these bytes, or, where they are `-`, is absent.
-fn has(alloc: Global, board: &mut MemBoard, want: &str) -> Result<bool, BoardFault> {
-    match board.read(alloc, "a", 100)? {
-        Some(bytes) => Ok(bytes.as_slice() == want.as_bytes()),
-        None => Ok(want == "-"),
+fn board_with(alloc: Global, old: &str, fails: &[Fail]) -> Result<MemBoard, NoMemory> {
+    if old == "-" {
+        board_of(alloc, &[], fails)
+    } else {
+        board_of(alloc, &[("a", old)], fails)
     }
 }
 
 // Puts the file `a`, or, where the bytes are `-`, removes it.
 fn put(board: &mut MemBoard, new: &str) -> Result<(), Failed> {
     if new == "-" {
-        crate::remove(board, "a")
+        staged_file::remove(board, "a")
     } else {
-        crate::put(board, "a", new.as_bytes())
+        staged_file::put(board, "a", new.as_bytes())
     }
 }
 
@@ -63,9 +51,9 @@ fn count(
     }
     for pick in 0..16u64 {
         let mut left = board.crash_at(alloc, tick, pick)?;
-        if has(alloc, &mut left, old)? {
+        if has(alloc, &mut left, "a", old)? {
             counts.old = counts.old.saturating_add(1);
-        } else if has(alloc, &mut left, new)? {
+        } else if has(alloc, &mut left, "a", new)? {
             counts.new = counts.new.saturating_add(1);
         } else {
             counts.other = counts.other.saturating_add(1);
@@ -77,7 +65,7 @@ fn count(
 // At each tick a crash leaves the old file or the new one, at the first tick the old one alone, and
 // after `Ok` at the last tick the new one alone.
 fn check(alloc: Global, old: &str, new: &str, fails: &[Fail]) -> Outcome {
-    let mut board = board_of(alloc, old, fails)?;
+    let mut board = board_with(alloc, old, fails)?;
     let done = put(&mut board, new).is_ok();
     if done != fails.is_empty() {
         return Err(test::Fail::new("a listed call must fail"));
@@ -116,7 +104,7 @@ fn so_does_a_fault_at_any_call(rt: HostRuntime) -> Outcome {
 #[test]
 fn both_outcomes_of_a_rename_are_there_until_the_directory_is_synced(rt: HostRuntime) -> Outcome {
     let alloc = rt.alloc();
-    let mut board = board_of(alloc, "old", &[])?;
+    let mut board = board_with(alloc, "old", &[])?;
     put(&mut board, "entire")?;
     let renamed = count(alloc, &board, 3, "old", "entire")?;
     assert!(rt; renamed.old > 0 && renamed.new > 0);

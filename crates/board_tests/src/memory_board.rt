@@ -1,13 +1,11 @@
-//! Each call with ample memory, the calls that are to fail, and what a crash leaves.
+//! The board in memory: its files, the calls that are to fail, and what a crash leaves.
 
-use crate::{Fail, MemBoard};
-use board_model::{Board, BoardFault};
-use ct_bytes::{Blob, NoMemory, Text};
+use crate::support::{Outcome, board_of, has, rename, sync};
+use board_model::Board;
 use fault_count::Failed;
+use mem_board::{Fail, MemBoard};
 use std::alloc::Global;
 use std::test;
-
-type Outcome = Result<(), test::Fail>;
 
 // A call on the file `a`, on its temporary file `tmp-a`, or on the chip.
 #[derive(Clone, Copy)]
@@ -20,38 +18,11 @@ enum Step {
     Store(u8),
 }
 
-// A board with these files, zero words and these failing calls.
-fn board_of(alloc: Global, files: &[(&str, &str)], fails: &[Fail]) -> Result<MemBoard, NoMemory> {
-    let mut list = Vec::new(alloc);
-    for (name, bytes) in files {
-        let name = Text::from_str(alloc, name)?;
-        let bytes = Blob::from_slice(alloc, bytes.as_bytes())?;
-        list.push((name, bytes))?;
-    }
-    MemBoard::new(alloc, list, [0; 256], fails.to_vec(alloc)?)
-}
-
-// Whether a file has these bytes, or, where they are `-`, is absent.
-fn has(alloc: Global, board: &mut MemBoard, name: &str, want: &str) -> Result<bool, BoardFault> {
-    match board.read(alloc, name, 100)? {
-        Some(bytes) => Ok(bytes.as_slice() == want.as_bytes()),
-        None => Ok(want == "-"),
-    }
-}
-
-// Renames the temporary file if it is there, which takes a call to see.
-fn rename(alloc: Global, board: &mut MemBoard) -> Result<(), Failed> {
-    match board.read(alloc, "tmp-a", 0) {
-        Ok(Some(_)) => board.rename("tmp-a", "a"),
-        _ => Err(Failed),
-    }
-}
-
 fn make(alloc: Global, board: &mut MemBoard, step: Step) -> Result<(), Failed> {
     match step {
         Step::Write(bytes) => board.write_temp("tmp-a", bytes.as_bytes()),
-        Step::Sync => board.sync_temp("tmp-a"),
-        Step::Rename => rename(alloc, board),
+        Step::Sync => sync(alloc, board, "tmp-a"),
+        Step::Rename => rename(alloc, board, "tmp-a", "a"),
         Step::Remove => board.remove("a"),
         Step::SyncDir => board.sync_dir(),
         Step::Store(byte) => board.nv_store(&[byte; 256]),
@@ -62,39 +33,6 @@ fn make_all(alloc: Global, board: &mut MemBoard, steps: &[Step]) -> Result<(), F
     for step in steps {
         make(alloc, board, *step)?;
     }
-    Ok(())
-}
-
-#[test]
-fn each_call_changes_what_it_names(rt: HostRuntime) -> Outcome {
-    let alloc = rt.alloc();
-    let mut board = board_of(alloc, &[("a", "one"), ("b", "two"), ("a", "three")], &[])?;
-    assert!(rt; has(alloc, &mut board, "a", "three")?);
-    make_all(alloc, &mut board, &[Step::Remove, Step::Remove])?;
-    assert!(rt; has(alloc, &mut board, "a", "-")?);
-    make_all(
-        alloc,
-        &mut board,
-        &[Step::Write("four"), Step::Sync, Step::Rename],
-    )?;
-    assert!(rt; has(alloc, &mut board, "a", "four")?);
-    assert!(rt; has(alloc, &mut board, "tmp-a", "-")?);
-    assert!(rt; has(alloc, &mut board, "b", "two")?);
-    make_all(alloc, &mut board, &[Step::SyncDir, Step::Store(7)])?;
-    assert_eq!(rt; board.nv_load()?, [7; 256]);
-    assert_eq!(rt; board.starved(), 0);
-    assert_eq!(rt; board.ticks(), 7);
-    Ok(())
-}
-
-#[test]
-fn a_read_gives_the_first_bytes(rt: HostRuntime) -> Outcome {
-    let alloc = rt.alloc();
-    let mut board = board_of(alloc, &[("a", "four")], &[])?;
-    let Some(front) = board.read(alloc, "a", 3)? else {
-        return Err(test::Fail::new("a is absent"));
-    };
-    assert_eq!(rt; front.as_slice(), b"fou".as_slice());
     Ok(())
 }
 
