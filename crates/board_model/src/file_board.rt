@@ -7,22 +7,25 @@ ghost use Rattle.std.specs.Cmp.Lexicographic.{slice_cmp};
 ghost use Rattle.fault_count.specs.Causes.{HasCause};
 ghost use Rattle.board_model.specs.Disk.{untold};
 
+use crate::lock_file::LockFile;
 use crate::real_folder::RealFolder;
 use crate::{Board, BoardFault};
 use ct_bytes::{Blob, NoMemory, Text};
 use fault_count::{Failed, FaultCount};
 use std::alloc::Global;
-use std::io::{self, ErrorKind};
+use std::fs::{File, OpenFile};
+use std::io::{self, ErrorKind, Read, Write};
 use std::rt::Files;
 
 /// A directory `DIR` that has the files, and `DIR.chip` that has the chip's words in its file
 /// `words`.
 ///
-/// After a sync that failed each later call fails: the system may have dropped what it was to write,
-/// and would report the next sync as done.
+/// The chip's directory is locked for as long as the board is there, so that a second board over it can't
+/// be opened. After a sync that failed each later call fails: the system may have dropped what it was to
+/// write, and would report the next sync as done.
 #[derive(Drop)]
-pub struct FileBoard<R> {
-    folder: RealFolder<R>,
+pub struct FileBoard<R, F = File> {
+    folder: RealFolder<R, F>,
     faults: FaultCount,
     lost: bool,
 }
@@ -52,14 +55,20 @@ fn answered<T: Drop>(faults: &mut FaultCount, outcome: io::Result<T>) -> Result<
     }
 }
 
-impl<R: Files + AllocGlobal + Clone + Drop> FileBoard<R> {
-    ghost use Rattle.board_model.specs.RealBoard.{faults_of, is_lost};
+impl<R, F> FileBoard<R, F>
+where
+    R: Files<File = F> + AllocGlobal + Clone + Drop,
+    F: Read + Write + OpenFile + LockFile + Drop,
+{
+    ghost use Rattle.board_model.specs.RealBoard.{faults_of, is_lost, Fails};
 
-    /// Opens the directory `dir`, without the slashes at its end, and makes it and the chip's where
-    /// they are absent.
+    /// Opens the directory that `dir` names, and makes it and the chip's where they are absent, for their
+    /// owner alone.
     ///
-    /// `Failed` where one of them can't be made, as where a file is in the way.
-    pub fn open(rt: R, alloc: Global, dir: &str) -> Result<FileBoard<R>, BoardFault>
+    /// The chip's directory has the resolved name of the other with `.chip` behind it, so that one directory
+    /// has one chip. `Failed` where one of them can't be made, as where a file is in the way or `dir` is the
+    /// root, and where another board has the chip's directory open.
+    pub fn open(rt: R, alloc: Global, dir: &str) -> Result<FileBoard<R, F>, BoardFault>
         ensures no_fault { IfOk result (λ board. faults_of board ≡ 0) }
         ensures usable { IfOk result (λ board. is_lost board ≡ false) }
     {
@@ -99,6 +108,28 @@ impl<R: Files + AllocGlobal + Clone + Drop> FileBoard<R> {
         }
     }
 
+    // The open file of this name. That it can't be opened loses nothing.
+    fn file(&mut self, name: &str) -> Result<F, Failed>
+        ensures fails { Fails self.old self.new (IsErr result) }
+        ensures cause { HasCause (faults_of self.old) (faults_of self.new) (IsErr result) }
+    {
+        self.usable()?;
+        let file = self.folder.file(name);
+        counted(&mut self.faults, file)
+    }
+
+    // The new words of the chip, whole in a file that isn't synced.
+    fn new_words(&mut self, words: &[u8; 256]) -> Result<F, Failed>
+        ensures fails { Fails self.old self.new (IsErr result) }
+        ensures cause { HasCause (faults_of self.old) (faults_of self.new) (IsErr result) }
+    {
+        self.usable()?;
+        let written = self.folder.write_words(words);
+        counted(&mut self.faults, written)?;
+        let file = self.folder.new_words();
+        counted(&mut self.faults, file)
+    }
+
     // Ends a sync. Where it failed, what was to be synced may be lost without another word.
     fn synced(&mut self, outcome: io::Result<()>) -> Result<(), Failed>
         ensures loses { OnErr result (IsTrue (is_lost self.new)) }
@@ -115,7 +146,11 @@ impl<R: Files + AllocGlobal + Clone + Drop> FileBoard<R> {
     }
 }
 
-impl<R: Files + AllocGlobal + Clone + Drop> Board for FileBoard<R> {
+impl<R, F> Board for FileBoard<R, F>
+where
+    R: Files<File = F> + AllocGlobal + Clone + Drop,
+    F: Read + Write + OpenFile + LockFile + Drop,
+{
     ghost use Rattle.board_model.specs.RealBoard.{faults_of, is_lost, Fails, Syncs};
 
     ghost disk = { λ b. untold };
@@ -173,10 +208,12 @@ impl<R: Files + AllocGlobal + Clone + Drop> Board for FileBoard<R> {
 
     fn sync_temp(&mut self, name: &str) -> Result<(), Failed>
         ensures cause { HasCause (faults_of self.old) (faults_of self.new) (IsErr result) }
-        ensures lost { Syncs self.old self.new (IsErr result) }
+        ensures lost { IsTrue (is_lost self.old) → IsErr result }
+        ensures stays { IsTrue (is_lost self.old) → IsTrue (is_lost self.new) }
+        ensures sound { OnOk result (is_lost self.new ≡ false) }
     {
-        self.usable()?;
-        let synced = self.folder.sync(name);
+        let file = self.file(name)?;
+        let synced = file.sync_all();
         self.synced(synced)
     }
 
@@ -203,7 +240,9 @@ impl<R: Files + AllocGlobal + Clone + Drop> Board for FileBoard<R> {
         ensures lost { Syncs self.old self.new (IsErr result) }
     {
         self.usable()?;
-        let synced = self.folder.sync_both();
+        let synced = self.folder.sync_files();
+        self.synced(synced)?;
+        let synced = self.folder.sync_chip();
         self.synced(synced)
     }
 
@@ -222,10 +261,8 @@ impl<R: Files + AllocGlobal + Clone + Drop> Board for FileBoard<R> {
         ensures stays { IsTrue (is_lost self.old) → IsTrue (is_lost self.new) }
         ensures sound { OnOk result (is_lost self.new ≡ false) }
     {
-        self.usable()?;
-        let written = self.folder.write_words(words);
-        counted(&mut self.faults, written)?;
-        let synced = self.folder.sync_words();
+        let file = self.new_words(words)?;
+        let synced = file.sync_all();
         self.synced(synced)?;
         let replaced = self.folder.replace_words();
         counted(&mut self.faults, replaced)?;

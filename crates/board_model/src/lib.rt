@@ -3,7 +3,10 @@
 
 mod board;
 mod file_board;
+mod lock_file;
+mod made_folder;
 mod real_folder;
 
 pub use board::{Board, BoardFault};
 pub use file_board::FileBoard;
+pub use lock_file::LockFile;

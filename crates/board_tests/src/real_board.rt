@@ -2,6 +2,7 @@
 
 use crate::support::Outcome;
 use board_model::{Board, FileBoard};
+use std::os::unix::fs::{self as unix, PermissionsExt};
 use std::{fs, test};
 
 #[test]
@@ -46,8 +47,72 @@ fn a_directory_that_cannot_be_made_is_a_fault(rt: HostRuntime) -> Outcome {
     let alloc = rt.alloc();
     fs::write(&rt, "file", b"".as_slice())?;
     fs::write(&rt, "chipless.chip", b"".as_slice())?;
-    for dir in ["file", "file/state", "chipless", ""] {
+    for dir in ["file", "file/state", "chipless", "", "/", "//"] {
         assert!(rt; FileBoard::open(rt, alloc, dir).is_err(), "{dir}");
     }
+    Ok(())
+}
+
+#[test]
+fn a_second_board_over_a_directory_is_refused(rt: HostRuntime) -> Outcome {
+    let alloc = rt.alloc();
+    fs::create_dir(&rt, "state")?;
+    unix::symlink(&rt, "state", "link")?;
+    // However the directory is named, it has one chip, beside it.
+    for dir in ["state", "state/", "state/.", "link", "link/../state"] {
+        let first = FileBoard::open(rt, alloc, dir);
+        assert!(rt; first.is_ok(), "{dir}");
+        for again in ["state", "link/."] {
+            assert!(rt;
+                FileBoard::open(rt, alloc, again).is_err(),
+                "{dir}, {again}"
+            );
+        }
+    }
+    assert!(rt; fs::exists(&rt, "state.chip")?);
+    assert!(rt; !fs::exists(&rt, "link.chip")?);
+    assert!(rt; !fs::exists(&rt, "state/.chip")?);
+    Ok(())
+}
+
+#[test]
+fn what_is_made_is_its_owners_alone(rt: HostRuntime) -> Outcome {
+    let alloc = rt.alloc();
+    let Ok(mut board) = FileBoard::open(rt, alloc, "above/state") else {
+        return Err(test::Fail::new("the directory can't be made"));
+    };
+    board.write_temp("tmp-a", b"entire")?;
+    board.nv_store(&[1; 256])?;
+    let made = [
+        ("above", 0o700),
+        ("above/state", 0o700),
+        ("above/state.chip", 0o700),
+        ("above/state/tmp-a", 0o600),
+        ("above/state.chip/words", 0o600),
+    ];
+    for (path, mode) in made {
+        let found = fs::metadata(&rt, path)?.permissions().mode() & 0o777;
+        assert_eq!(rt; found, mode, "{path}");
+    }
+    Ok(())
+}
+
+#[test]
+fn nothing_is_written_or_read_through_a_link(rt: HostRuntime) -> Outcome {
+    let alloc = rt.alloc();
+    let Ok(mut board) = FileBoard::open(rt, alloc, "links") else {
+        return Err(test::Fail::new("the directory can't be made"));
+    };
+    fs::write(&rt, "target", b"old".as_slice())?;
+    unix::symlink(&rt, "../target", "links/tmp-a")?;
+    fs::hard_link(&rt, "target", "links/tmp-b")?;
+    unix::symlink(&rt, "../target", "links.chip/tmp-words")?;
+    unix::symlink(&rt, "../target", "links/a")?;
+    assert!(rt; board.read(alloc, "a", 100).is_err());
+    for name in ["tmp-a", "tmp-b"] {
+        board.write_temp(name, b"new")?;
+    }
+    board.nv_store(&[1; 256])?;
+    assert_eq!(rt; fs::read(&rt, "target")?.as_slice(), b"old".as_slice());
     Ok(())
 }
