@@ -1,3 +1,3 @@
-pub mod Calling
-pub mod FileMaps
-pub mod Left
+pub mod CrashLemmas
+pub mod FileMapLemmas
+pub mod NextChange

@@ -3,14 +3,14 @@ use Rattle.std.specs.Prelude.{ℕ, ◌-◌, ◌/◌, ◌%◌, Bool, true, false,
 use Rattle.std.specs.Prelude.{List, [], ◌∷◌, length, take, drop, is_some}
 use Rattle.std.specs.FinMap.{get}
 use Rattle.board_model.specs.Disk.{Image, Disk}
-use Rattle.mem_board.specs.Calls.{changed, changed_by, now_of, mended, disk_of}
+use Rattle.mem_board.specs.Images.{changed, changed_by, now_of, mended, disk_of}
 use Rattle.mem_board.specs.Memory.{Memory}
-use Rattle.mem_board.specs.declared.call.Call.{Call}
-use Rattle.mem_board.specs.declared.call.Change.{Change}
-use Rattle.mem_board.specs.declared.call.Change.TheVariants.{Write, SyncTemp, Rename, Remove}
-use Rattle.mem_board.specs.declared.call.Change.TheVariants.{SyncDir, Store}
-use Rattle.mem_board.specs.declared.call.Outcome.{Outcome}
-use Rattle.mem_board.specs.declared.call.Outcome.TheVariants.{Done, FailedDone, FailedNot}
+use Rattle.mem_board.specs.declared.change.Call.{Call}
+use Rattle.mem_board.specs.declared.change.Change.{Change}
+use Rattle.mem_board.specs.declared.change.Change.TheVariants.{Write, SyncTemp, Rename, Remove}
+use Rattle.mem_board.specs.declared.change.Change.TheVariants.{SyncDir, Store}
+use Rattle.mem_board.specs.declared.change.Outcome.{Outcome}
+use Rattle.mem_board.specs.declared.change.Outcome.TheVariants.{Done, FailedDone, FailedNot}
 
 -- a change that isn't a write is in each image as it is now: the directory was synced later, or it is
 -- a store that is done

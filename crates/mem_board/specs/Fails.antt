@@ -1,7 +1,7 @@
 -- The calls that fail, by their numbers.
 use Rattle.std.specs.Prelude.{ℕ, List, [], ◌∷◌, cond, nat_eq}
-use Rattle.mem_board.specs.declared.call.Outcome.{Outcome}
-use Rattle.mem_board.specs.declared.call.Outcome.TheVariants.{Done, FailedDone, FailedNot}
+use Rattle.mem_board.specs.declared.change.Outcome.{Outcome}
+use Rattle.mem_board.specs.declared.change.Outcome.TheVariants.{Done, FailedDone, FailedNot}
 use Rattle.mem_board.specs.declared.fail.Fail.{Fail}
 
 abbrev pub outcome_of : Fail → Outcome

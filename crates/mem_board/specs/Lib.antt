@@ -1,9 +1,9 @@
-pub mod CallLaws
-pub mod Calls
-pub mod Choosing
 pub mod Coding
 pub mod Content
 pub mod Crash
+pub mod CrashState
 pub mod Fails
 pub mod FileList
+pub mod ImageLaws
+pub mod Images
 pub mod Memory

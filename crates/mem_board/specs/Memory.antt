@@ -2,14 +2,14 @@
 use Rattle.std.specs.Prelude.{◌≡◌, ◌≢◌, ◌⊎◌, ◌↔◌, ℕ, ◌+◌, ◌-◌, ◌^◌, min, List, [], ◌∷◌, Some}
 use Rattle.fault_count.specs.Causes.{Rose}
 use Rattle.board_model.specs.Disk.{Image, Disk}
-use Rattle.mem_board.specs.Calls.{disk_of}
+use Rattle.mem_board.specs.Images.{disk_of}
 use Rattle.mem_board.specs.Content.{image_of}
 use Rattle.mem_board.specs.Fails.{listed_at}
 use Rattle.mem_board.specs.declared.board.MemBoard.{MemBoard}
-use Rattle.mem_board.specs.declared.call.Call.{Call}
-use Rattle.mem_board.specs.declared.call.Change.{Change}
-use Rattle.mem_board.specs.declared.call.Outcome.{Outcome}
-use Rattle.mem_board.specs.declared.call.Outcome.TheVariants.{Done}
+use Rattle.mem_board.specs.declared.change.Call.{Call}
+use Rattle.mem_board.specs.declared.change.Change.{Change}
+use Rattle.mem_board.specs.declared.change.Outcome.{Outcome}
+use Rattle.mem_board.specs.declared.change.Outcome.TheVariants.{Done}
 use Rattle.mem_board.specs.declared.fail.Fail.{Fail}
 
 pub record Memory : Type 0 where

@@ -3,9 +3,9 @@
 ghost use Rattle.std.specs.Prelude.{◌≡◌, OnOk, OnErr, IfOk, option_map, take};
 ghost use Rattle.std.specs.FinMap.{get};
 ghost use Rattle.mem_board.specs.Content.{image_of};
-ghost use Rattle.mem_board.specs.Calls.{changed, changed_by};
+ghost use Rattle.mem_board.specs.Images.{changed, changed_by};
 
-use crate::call::{Change, Outcome};
+use crate::change::{Change, Outcome};
 use crate::file_map::FileMap;
 use ct_bytes::{Blob, NoMemory, Text};
 use std::alloc::Global;

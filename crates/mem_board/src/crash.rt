@@ -2,15 +2,14 @@
 
 ghost use Rattle.std.specs.Prelude.{◌≡◌, ◌-◌, ◌/◌, ◌%◌, ◌<◌, ◌≤◌, [], OnOk, IfOk, length, drop};
 ghost use Rattle.std.specs.Prelude.{nat_lt};
-ghost use Rattle.mem_board.specs.Calls.{changed_by, now_of, mended};
+ghost use Rattle.mem_board.specs.Images.{changed_by, now_of, mended};
 ghost use Rattle.mem_board.specs.Content.{image_of};
 ghost use Rattle.mem_board.specs.Crash.{is_certain, choices, written_as, chosen, is_dir_sync};
 ghost use Rattle.mem_board.specs.Crash.{synced_to, next_choice, disk_then, image_at};
-ghost use Rattle.mem_board.specs.Choosing.{choice_of};
+ghost use Rattle.mem_board.specs.CrashState.{choice_of};
 ghost use Rattle.mem_board.specs.Memory.{memory_of, faults_of, disk_at, started, HasOnly};
 
-use crate::board::MemBoard;
-use crate::call::{Call, Change, Outcome};
+use crate::change::{Call, Change, Outcome};
 use crate::content::Content;
 use ct_bytes::{Blob, NoMemory, Text};
 use std::alloc::Global;
@@ -122,7 +121,7 @@ fn leave(
 }
 
 // How many calls there were up to the last sync of the directory, of those from `newest` on.
-fn synced_calls(calls: &VecDeque<Call>, newest: usize) -> usize
+pub fn synced_calls(calls: &VecDeque<Call>, newest: usize) -> usize
     requires { newest ≤ length calls.now.items }
     ensures value { result ≡ synced_to (drop newest calls.now.items) }
 {
@@ -137,16 +136,16 @@ fn synced_calls(calls: &VecDeque<Call>, newest: usize) -> usize
 /// An image in the making: what a crash leaves by the calls so far, what is there after them, and the
 /// digits that are left to choose by.
 #[derive(Drop)]
-struct Crash {
-    alloc: Global,
-    image: Content,
-    content: Content,
-    pick: u64,
+pub struct Crash {
+    pub alloc: Global,
+    pub image: Content,
+    pub content: Content,
+    pub pick: u64,
 }
 
 impl Crash {
     // One call more.
-    fn step(&mut self, call: &Call, synced: bool) -> Result<(), NoMemory>
+    pub fn step(&mut self, call: &Call, synced: bool) -> Result<(), NoMemory>
         ensures choice { OnOk result (choice_of self.new
             ≡ next_choice synced call.now (image_of self.old.content) (choice_of self.old)) }
         ensures content { OnOk result (image_of self.new.content
@@ -164,49 +163,5 @@ impl Crash {
             digit,
         )?;
         self.content.change_by(&call.change, call.outcome)
-    }
-}
-
-impl MemBoard {
-    // The image that a crash leaves after the first `tick` calls.
-    fn crash_image(&self, tick: usize, pick: u64) -> Result<Content, NoMemory>
-        requires { tick ≤ length self.now.calls.items }
-        ensures value { IfOk result (λ content.
-            image_of content ≡ image_at (memory_of self.now) tick pick) }
-    {
-        let newest = self.calls.len() - tick;
-        let synced = synced_calls(&self.calls, newest);
-        let mut crash = Crash {
-            alloc: self.alloc,
-            image: self.first.copy()?,
-            content: self.first.copy()?,
-            pick,
-        };
-        for number in 0..tick {
-            let call = &self.calls[self.calls.len() - 1 - number];
-            crash.step(call, number < synced)?;
-        }
-        Ok(crash.image)
-    }
-
-    /// A board with an image that a crash at this tick may leave, and with no calls that fail.
-    ///
-    /// `pick` chooses among the outcomes of the calls so far: each takes a digit, the oldest the lowest.
-    /// A file that was written is new, as it was, absent or cut in half. A rename, a removal and a failed
-    /// store are done or not, unless the directory was synced later.
-    pub fn crash_at(&self, alloc: Global, tick: u64, pick: u64) -> Result<MemBoard, NoMemory>
-        requires { tick ≤ (disk_at self.now).ticks }
-        ensures starts { IfOk result (λ board.
-            memory_of board ≡ started (image_at (memory_of self.now) tick pick) []) }
-        // A crash at that tick may leave it.
-        ensures left { IfOk result (λ board.
-            (disk_then (memory_of self.now) tick).may_leave (memory_of board).first) }
-        ensures since { IfOk result (λ board.
-            (disk_at self.now).left_since tick (memory_of board).first) }
-        ensures settled { IfOk result (λ board. HasOnly (disk_at board) (memory_of board).first) }
-        ensures no_fault { IfOk result (λ board. faults_of board ≡ 0) }
-    {
-        let content = self.crash_image(tick as usize, pick)?;
-        MemBoard::begin(alloc, content, Vec::new(alloc))
     }
 }

@@ -3,7 +3,7 @@
 ghost use Rattle.std.specs.Prelude.{◌≡◌};
 ghost use Rattle.mem_board.specs.Fails.{outcome_of, listed_at};
 
-use crate::call::Outcome;
+use crate::change::Outcome;
 
 /// The number of a call, from 1, that fails, and whether its change is done.
 #[derive(Clone, Copy, Debug, PartialEq, Eq)]

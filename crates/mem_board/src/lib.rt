@@ -1,15 +1,13 @@
 //! A board in memory that stores its calls, with the images that a crash may leave of it.
 #![tactic(auto)]
 
+mod as_board;
 mod board;
-mod call;
-mod calls;
+mod change;
 mod content;
 mod crash;
 mod fail;
 mod file_map;
-mod start;
-mod stored;
 
 pub use board::MemBoard;
 pub use fail::Fail;

@@ -1,9 +1,9 @@
 use Rattle.std.proofs.Common.{refl, sym, ap, ◌∙◌, subst}
 use Rattle.std.proofs.lemmas.Result.{IfOk-weaker}
-use Rattle.mem_board.specs.Calls.{IsImage, WasImage}
+use Rattle.mem_board.specs.Images.{IsImage, WasImage}
 use Rattle.mem_board.specs.Crash.{calls_to, synced_to}
 use Rattle.mem_board.specs.Memory.{Memory, memory_of}
-use Rattle.mem_board.proofs.Left.{image_chosen_at, since_then}
+use Rattle.mem_board.proofs.CrashLemmas.{image_chosen_at, since_then}
 use Rattle.mem_board.proofs.board.MemBoard.crash_at.Goals as goal
 
 -- the image that is chosen is one of those at that tick

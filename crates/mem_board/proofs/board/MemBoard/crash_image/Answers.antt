@@ -1,5 +1,5 @@
 use Rattle.std.proofs.Common.{◌≡◌, get_or, length, ◌-◌, ◌<◌, rules}
-use Rattle.mem_board.proofs.Left.{left_more}
+use Rattle.mem_board.proofs.CrashLemmas.{left_more}
 use Rattle.mem_board.proofs.board.MemBoard.crash_image.Goals as goal
 
 -- the next call is the oldest of those that are left

@@ -1,7 +1,7 @@
 use Rattle.std.proofs.Common.{◌-◌, drop, length}
-use Rattle.mem_board.specs.Choosing.{choice_of}
+use Rattle.mem_board.specs.CrashState.{choice_of}
 use Rattle.mem_board.specs.Content.{image_of}
-use Rattle.mem_board.proofs.Left.{LeftBy}
+use Rattle.mem_board.proofs.CrashLemmas.{LeftBy}
 use Rattle.mem_board.proofs.board.MemBoard.crash_image.Given as goal
 
 -- the calls so far are the oldest

@@ -1,7 +1,7 @@
 use Rattle.std.proofs.Common.{sym, ap, ◌∙◌}
 use Rattle.std.specs.FinMap.{empty}
 use Rattle.mem_board.specs.FileList.{with_files}
-use Rattle.mem_board.proofs.FileMaps.{with_sorted}
+use Rattle.mem_board.proofs.FileMapLemmas.{with_sorted}
 use Rattle.mem_board.proofs.file_map.FileMap.copy.Goals as goal
 
 -- the tree's entries are in order

@@ -1,6 +1,6 @@
 use Rattle.std.proofs.Common.{ap, sym, ◌∙◌}
 use Rattle.std.specs.FinMap.{get}
-use Rattle.mem_board.proofs.FileMaps.{get_lookup}
+use Rattle.mem_board.proofs.FileMapLemmas.{get_lookup}
 use Rattle.mem_board.proofs.file_map.FileMap.get.Goals as goal
 
 -- the tree's look-up is the map's

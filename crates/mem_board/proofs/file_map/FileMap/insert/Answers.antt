@@ -1,6 +1,6 @@
 use Rattle.std.proofs.Common.{ap, ◌∙◌}
 use Rattle.std.specs.FinMap.{insert}
-use Rattle.mem_board.proofs.FileMaps.{inserted}
+use Rattle.mem_board.proofs.FileMapLemmas.{inserted}
 use Rattle.mem_board.proofs.file_map.FileMap.insert.Goals as goal
 
 -- the tree's update is the map's

@@ -1,6 +1,6 @@
 use Rattle.std.proofs.Common.{◌≡◌, map, ap, sym, ◌∙◌, rules}
 use Rattle.std.specs.FinMap.{keys}
-use Rattle.mem_board.proofs.FileMaps.{sorted_keys}
+use Rattle.mem_board.proofs.FileMapLemmas.{sorted_keys}
 use Rattle.mem_board.proofs.file_map.FileMap.names.Goals as goal
 
 -- the tree's names are in order

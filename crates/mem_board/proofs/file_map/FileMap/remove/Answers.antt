@@ -1,6 +1,6 @@
 use Rattle.std.proofs.Common.{ap, ◌∙◌}
 use Rattle.std.specs.FinMap.{remove}
-use Rattle.mem_board.proofs.FileMaps.{removed}
+use Rattle.mem_board.proofs.FileMapLemmas.{removed}
 use Rattle.mem_board.proofs.file_map.FileMap.remove.Goals as goal
 
 -- the tree's removal is the map's

@@ -1,6 +1,6 @@
 use Rattle.std.proofs.Common.{◌≡◌, ◌≢◌, rules, Some}
 use Rattle.std.specs.FinMap.{get}
-use Rattle.mem_board.proofs.FileMaps.{moved, moved_to_itself}
+use Rattle.mem_board.proofs.FileMapLemmas.{moved, moved_to_itself}
 use Rattle.mem_board.proofs.file_map.FileMap.rename.Goals as goal
 
 pub returns-in_ok-insert-clause-ok : goal.returns-in_ok-insert-clause-ok

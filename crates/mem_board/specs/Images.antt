@@ -4,12 +4,12 @@ use Rattle.std.specs.FinMap.{get, insert, remove}
 use Rattle.board_model.specs.Files.{renamed, with_content}
 use Rattle.board_model.specs.Disk.{Image, Disk, Effect, Same, SameBut, Renamed, Removed, Stored}
 use Rattle.board_model.specs.Disk.{Maybe}
-use Rattle.mem_board.specs.declared.call.Call.{Call}
-use Rattle.mem_board.specs.declared.call.Change.{Change}
-use Rattle.mem_board.specs.declared.call.Change.TheVariants.{Write, SyncTemp, Rename, Remove}
-use Rattle.mem_board.specs.declared.call.Change.TheVariants.{SyncDir, Store}
-use Rattle.mem_board.specs.declared.call.Outcome.{Outcome}
-use Rattle.mem_board.specs.declared.call.Outcome.TheVariants.{Done, FailedDone, FailedNot}
+use Rattle.mem_board.specs.declared.change.Call.{Call}
+use Rattle.mem_board.specs.declared.change.Change.{Change}
+use Rattle.mem_board.specs.declared.change.Change.TheVariants.{Write, SyncTemp, Rename, Remove}
+use Rattle.mem_board.specs.declared.change.Change.TheVariants.{SyncDir, Store}
+use Rattle.mem_board.specs.declared.change.Outcome.{Outcome}
+use Rattle.mem_board.specs.declared.change.Outcome.TheVariants.{Done, FailedDone, FailedNot}
 
 -- an image once the change is done
 abbrev pub changed : Change → Image → Image

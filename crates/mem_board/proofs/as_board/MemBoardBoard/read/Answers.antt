@@ -1,5 +1,5 @@
-use Rattle.mem_board.proofs.Calling.{looks_unchanged}
-use Rattle.mem_board.proofs.calls.MemBoardBoard.read.Goals as goal
+use Rattle.mem_board.proofs.NextChange.{looks_unchanged}
+use Rattle.mem_board.proofs.as_board.MemBoardBoard.read.Goals as goal
 
 pub returns-in-Ok-read-clause-unchanged : goal.returns-in-Ok-read-clause-unchanged
 returns-in-Ok-read-clause-unchanged c = looks_unchanged _ _ _ c.look.ensures.looks

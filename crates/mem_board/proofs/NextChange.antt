@@ -10,16 +10,16 @@ use Rattle.board_model.specs.Disk.{Leaves, Goes, GoesOrNot, Unchanged, IsWholeIn
 use Rattle.board_model.proofs.Effects.{leaves_none, goes_same, unchanged_none}
 use Rattle.board_model.proofs.Effects.{goes_or_not_weaker}
 use Rattle.board_model.proofs.Names.{get-inserted, get-removed, get-insert_other, get-remove_other}
-use Rattle.mem_board.specs.Calls.{changed, now_of, mended, SyncedBy, IsSynced, ImageBy}
-use Rattle.mem_board.specs.Calls.{IsImage, disk_of, InCall, DoneAs}
-use Rattle.mem_board.specs.CallLaws.{only_newest, synced_is_image}
+use Rattle.mem_board.specs.Images.{changed, now_of, mended, SyncedBy, IsSynced, ImageBy}
+use Rattle.mem_board.specs.Images.{IsImage, disk_of, InCall, DoneAs}
+use Rattle.mem_board.specs.ImageLaws.{only_newest, synced_is_image}
 use Rattle.mem_board.specs.Memory.{Memory, disk, next_outcome, Looks, Changes}
-use Rattle.mem_board.specs.declared.call.Call.{Call}
-use Rattle.mem_board.specs.declared.call.Change.{Change}
-use Rattle.mem_board.specs.declared.call.Change.TheVariants.{Write, SyncTemp, Rename, Remove}
-use Rattle.mem_board.specs.declared.call.Change.TheVariants.{SyncDir, Store}
-use Rattle.mem_board.specs.declared.call.Outcome.{Outcome}
-use Rattle.mem_board.specs.declared.call.Outcome.TheVariants.{Done, FailedDone, FailedNot}
+use Rattle.mem_board.specs.declared.change.Call.{Call}
+use Rattle.mem_board.specs.declared.change.Change.{Change}
+use Rattle.mem_board.specs.declared.change.Change.TheVariants.{Write, SyncTemp, Rename, Remove}
+use Rattle.mem_board.specs.declared.change.Change.TheVariants.{SyncDir, Store}
+use Rattle.mem_board.specs.declared.change.Outcome.{Outcome}
+use Rattle.mem_board.specs.declared.change.Outcome.TheVariants.{Done, FailedDone, FailedNot}
 
 -- what a call may leave, it may leave undone
 

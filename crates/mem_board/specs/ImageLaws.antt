@@ -11,14 +11,14 @@ use Rattle.std.specs.FinMap.{slice_cmp-IsAntisymmetric, nat_cmp-IsAntisymmetric}
 use Rattle.board_model.specs.Files.{Files, with_content}
 use Rattle.board_model.specs.Disk.{Image}
 use Rattle.board_model.proofs.Names.{same_or_apart, get-insert_other}
-use Rattle.mem_board.specs.Calls.{changed, changed_by, now_of, SyncedBy, IsSynced, ImageBy}
-use Rattle.mem_board.specs.Calls.{IsImage, WasImage}
-use Rattle.mem_board.specs.declared.call.Call.{Call}
-use Rattle.mem_board.specs.declared.call.Change.{Change}
-use Rattle.mem_board.specs.declared.call.Change.TheVariants.{Write, SyncTemp, Rename, Remove}
-use Rattle.mem_board.specs.declared.call.Change.TheVariants.{SyncDir, Store}
-use Rattle.mem_board.specs.declared.call.Outcome.{Outcome}
-use Rattle.mem_board.specs.declared.call.Outcome.TheVariants.{Done, FailedDone, FailedNot}
+use Rattle.mem_board.specs.Images.{changed, changed_by, now_of, SyncedBy, IsSynced, ImageBy}
+use Rattle.mem_board.specs.Images.{IsImage, WasImage}
+use Rattle.mem_board.specs.declared.change.Call.{Call}
+use Rattle.mem_board.specs.declared.change.Change.{Change}
+use Rattle.mem_board.specs.declared.change.Change.TheVariants.{Write, SyncTemp, Rename, Remove}
+use Rattle.mem_board.specs.declared.change.Change.TheVariants.{SyncDir, Store}
+use Rattle.mem_board.specs.declared.change.Outcome.{Outcome}
+use Rattle.mem_board.specs.declared.change.Outcome.TheVariants.{Done, FailedDone, FailedNot}
 
 pub counted : (first : Image) (calls : List Call) (t : ℕ) (i : Image) → IsImage first calls i → WasImage first calls t i
 counted first [] t i is = is

@@ -15,7 +15,7 @@ ghost use Rattle.board_model.specs.Disk.{Ticked, IsWholeIn};
 ghost use Rattle.mem_board.specs.Memory.{memory_of, faults_of, disk_at, Looks, Changes};
 
 use crate::board::MemBoard;
-use crate::call::Change;
+use crate::change::Change;
 use board_model::{Board, BoardFault};
 use ct_bytes::{Blob, NoMemory, Text};
 use fault_count::Failed;
@@ -51,8 +51,8 @@ fn removal_of(alloc: Global, name: &str) -> Result<Change, NoMemory>
 
 impl Board for MemBoard {
     ghost use Rattle.mem_board.specs.Memory.{memory_of, faults_of, disk_at};
-    ghost use Rattle.mem_board.specs.CallLaws.{counted, was_earlier, only_newest};
-    ghost use Rattle.mem_board.specs.CallLaws.{synced_is_image, now_is_image};
+    ghost use Rattle.mem_board.specs.ImageLaws.{counted, was_earlier, only_newest};
+    ghost use Rattle.mem_board.specs.ImageLaws.{synced_is_image, now_is_image};
 
     ghost disk = { λ b. disk_at b };
 
@@ -117,7 +117,7 @@ impl Board for MemBoard {
             (memory_of self.old) (memory_of self.new) (IsErr result) }
     {
         let change = write_of(self.alloc, name, bytes);
-        self.call(change)
+        self.change(change)
     }
 
     fn sync_temp(&mut self, name: &str) -> Result<(), Failed>
@@ -135,7 +135,7 @@ impl Board for MemBoard {
             (memory_of self.old) (memory_of self.new) (IsErr result) }
     {
         let change = sync_of(self.alloc, name);
-        self.call(change)
+        self.change(change)
     }
 
     fn rename(&mut self, from: &str, to: &str) -> Result<(), Failed>
@@ -152,7 +152,7 @@ impl Board for MemBoard {
             (memory_of self.old) (memory_of self.new) (IsErr result) }
     {
         let change = rename_of(self.alloc, from, to);
-        self.call(change)
+        self.change(change)
     }
 
     fn remove(&mut self, name: &str) -> Result<(), Failed>
@@ -165,7 +165,7 @@ impl Board for MemBoard {
             (memory_of self.old) (memory_of self.new) (IsErr result) }
     {
         let change = removal_of(self.alloc, name);
-        self.call(change)
+        self.change(change)
     }
 
     fn sync_dir(&mut self) -> Result<(), Failed>
@@ -177,7 +177,7 @@ impl Board for MemBoard {
         ensures counted { Changes Change.SyncDir
             (memory_of self.old) (memory_of self.new) (IsErr result) }
     {
-        self.call(Ok(Change::SyncDir))
+        self.change(Ok(Change::SyncDir))
     }
 
     fn nv_load(&mut self) -> Result<[u8; 256], Failed>
@@ -202,6 +202,6 @@ impl Board for MemBoard {
         ensures counted { Changes (Change.Store words.now)
             (memory_of self.old) (memory_of self.new) (IsErr result) }
     {
-        self.call(Ok(Change::Store(*words)))
+        self.change(Ok(Change::Store(*words)))
     }
 }

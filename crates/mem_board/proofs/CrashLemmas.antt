@@ -7,16 +7,16 @@ use Rattle.std.proofs.lemmas.Bool.{lt-ltb, le-ltb, cases_lt}
 use Rattle.std.specs.FinMap.{get}
 use Rattle.board_model.specs.Disk.{Image, SameBut}
 use Rattle.board_model.proofs.Names.{get-insert_other, get-remove_other}
-use Rattle.mem_board.specs.Calls.{changed, changed_by, now_of, mended, Mended, SyncedBy, IsSynced}
-use Rattle.mem_board.specs.Calls.{ImageBy, IsImage, WasImage}
+use Rattle.mem_board.specs.Images.{changed, changed_by, now_of, mended, Mended, SyncedBy, IsSynced}
+use Rattle.mem_board.specs.Images.{ImageBy, IsImage, WasImage}
 use Rattle.mem_board.specs.Crash.{choices, written_as, synced_as, chosen, is_dir_sync}
 use Rattle.mem_board.specs.Crash.{synced_to, Choice, choice_at, next_choice}
-use Rattle.mem_board.specs.declared.call.Call.{Call}
-use Rattle.mem_board.specs.declared.call.Change.{Change}
-use Rattle.mem_board.specs.declared.call.Change.TheVariants.{Write, SyncTemp, Rename, Remove}
-use Rattle.mem_board.specs.declared.call.Change.TheVariants.{SyncDir, Store}
-use Rattle.mem_board.specs.declared.call.Outcome.{Outcome}
-use Rattle.mem_board.specs.declared.call.Outcome.TheVariants.{Done, FailedDone, FailedNot}
+use Rattle.mem_board.specs.declared.change.Call.{Call}
+use Rattle.mem_board.specs.declared.change.Change.{Change}
+use Rattle.mem_board.specs.declared.change.Change.TheVariants.{Write, SyncTemp, Rename, Remove}
+use Rattle.mem_board.specs.declared.change.Change.TheVariants.{SyncDir, Store}
+use Rattle.mem_board.specs.declared.change.Outcome.{Outcome}
+use Rattle.mem_board.specs.declared.change.Outcome.TheVariants.{Done, FailedDone, FailedNot}
 
 not_true : false ≡ true → ⊥
 not_true e = subst (λ b. elim b as (λ _. Type 0) [ true ↦ ⊥ | false ↦ Unit {0} ]) e tt
