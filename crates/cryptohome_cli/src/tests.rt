@@ -242,10 +242,10 @@ fn a_fault_outside_has_its_status(rt: HostRuntime) -> Result<(), Fail> {
 fn after_a_storage_fault_the_board_decides(rt: HostRuntime) -> Result<(), Fail> {
     let alloc = rt.alloc();
     let input = format!(in alloc; "{CREATE}{CREATE}")?;
-    // the fourth call is the renaming of the new record
+    // the fifth call is the renaming of the new record
     for (done, second) in [(false, OK), (true, EXISTS)] {
         let mut outside = Outside::of(input.as_bytes());
-        outside.board_fail = Some(BoardFail { call: 4, done });
+        outside.board_fail = Some(BoardFail { call: 5, done });
         let mut outcome = run_over(alloc, &outside)?;
         let want = format!(in alloc; "{STORAGE_FAULT}{second}")?;
         assert_eq!(rt; outcome.status, 0);

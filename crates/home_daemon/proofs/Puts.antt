@@ -9,7 +9,7 @@ use Rattle.board_model.proofs.Effects.{becomes_weaker, goes_weaker, goes_then, l
 use Rattle.staged_file.specs.Staged.{Kept, KeptOr}
 use Rattle.staged_file.proofs.Staging.{kept_same}
 use Rattle.home_names.specs.Names.{is_account_name, stash_name}
-use Rattle.home_daemon.specs.Stash.{stash_bytes, PutsRecord, PutsAtMost, EachHas, Gets, KeepsOrGets}
+use Rattle.home_daemon.specs.Stash.{stash_bytes, PutsRecord, PutsAtMost, EachHas, Gets, KeepsOrGets, Lasts}
 
 -- a record's name isn't that of a temporary file
 pub not_temporary : (account : List ℕ) → IsTrue (is_account_name account) → ¬ IsTemporary (stash_name account)
@@ -26,6 +26,12 @@ unchanged_then a b c first second = record {
   goes = goes_then a b c Same Same Same (λ d e i one other. other ∙ one) first.goes second.goes;
   crash = leaves_then a b c Same Same Same (λ d i same. same) (λ d e i one left other. other ∙ one) first.crash second.crash;
 }
+
+-- a sync, and a call that changes nothing
+pub lasts_then : (a b c : Disk) → ((i : Image) → b.may_leave i → a.once_synced i) → Unchanged b c
+    → Lasts a c
+lasts_then a b c stands same i left =
+    let from = same.crash.here i left in (from.0, stands from.0 from.1, from.2)
 
 module _ (account : List ℕ) where
   abbrev Put : Effect

@@ -13,7 +13,7 @@ use Rattle.home_daemon.specs.declared.account.Account.{Account}
 use Rattle.home_daemon.specs.declared.account.OpenFault.{OpenFault}
 use Rattle.home_daemon.specs.declared.account.OpenFault.TheVariants as OpenFaults
 use Rattle.home_names.specs.Names.{is_account_name}
-use Rattle.home_daemon.specs.Stash.{HoldsUser, Has, PutsAtMost, EachHas}
+use Rattle.home_daemon.specs.Stash.{HoldsUser, Has, PutsAtMost, EachHas, Lasts}
 use Rattle.home_daemon.specs.Home.{user_in, NamesDamage}
 
 -- how many storage faults an answer is
@@ -99,6 +99,7 @@ module _ {B : Type 0} where
     pub user_is : user_of account ≡ opened (record { made = made; next = 1 }) moment
     pub found : IfSome (disk board).now (λ now. Has now.files name made)
     pub plain : IsTrue (is_account_name name)
+    pub lasts : Lasts (disk board) (disk (board_of account))
     pub unchanged : Unchanged (disk board) (disk (board_of account))
     pub quiet : faults (board_of account) ≡ faults board
 

@@ -3,7 +3,7 @@ use Rattle.std.specs.Prelude.{◌≡◌, ◌≢◌, ◌⊎◌, ℕ, Bool, true, 
 use Rattle.std.specs.Option.{IsSomeAnd}
 use Rattle.std.specs.FinMap.{get}
 use Rattle.board_model.specs.Files.{Files}
-use Rattle.board_model.specs.Disk.{Image, Disk, Effect, Leaves, Goes}
+use Rattle.board_model.specs.Disk.{Image, Disk, Effect, Same, Follows, Leaves, Goes}
 use Rattle.staged_file.specs.Staged.{Replaced, KeptOr}
 use Rattle.factor_machine.specs.declared.user.User.{User}
 use Rattle.factor_machine.specs.declared.user.Durable.{Durable}
@@ -47,6 +47,11 @@ KeepsOrGets name bytes old new = (get new.files name ≡ get old.files name) ⊎
 -- each image that a crash may leave has the account's record
 abbrev pub EachHas : List ℕ → Disk → Type 0
 EachHas account disk = (i : Image) → disk.may_leave i → Has i.files account true
+
+-- Each image that a crash may leave now is one that it might have left once the directory was synced: what
+-- is read now, no crash takes back.
+abbrev pub Lasts : Disk → Disk → Type 0
+Lasts old new = Follows Same old.once_synced new.may_leave
 
 -- a file of the record's name has other bytes
 abbrev pub IsOutside : Files → List ℕ → Type 0

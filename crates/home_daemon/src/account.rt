@@ -13,7 +13,7 @@ ghost use Rattle.board_model.specs.Disk.{Unchanged};
 ghost use Rattle.home_names.specs.Names.{is_account_name, stash_name};
 ghost use Rattle.request_lang.specs.Replies.{NamesRecord};
 ghost use Rattle.home_daemon.specs.Home.{user_in, HoldsOutside, FindsHome, NamesDamage};
-ghost use Rattle.home_daemon.specs.Stash.{HoldsUser, PutsAtMost, EachHas};
+ghost use Rattle.home_daemon.specs.Stash.{HoldsUser, PutsAtMost, EachHas, Lasts};
 ghost use Rattle.home_daemon.specs.Turns.{TakesTurn, answer_of, IsActOf};
 ghost use Rattle.home_daemon.specs.Account.{Continues, Opens, Refuses, name_of, entries_of, board_of};
 
@@ -123,7 +123,7 @@ fn note(entries: &mut Vec<Entry>, entry: Entry)
     let _ = entries.push(entry);
 }
 
-// Finds out whether the account has a home.
+// Finds out whether the account has a home. No crash takes that back.
 fn read_home<B: Board>(
     alloc: Global,
     stash: &StashRecord,
@@ -132,6 +132,7 @@ fn read_home<B: Board>(
     ensures found { IfOk result (λ home. FindsHome (B.disk board.old).now stash.now home) }
     ensures damaged { (name : List ℕ) → result ≡ Err (OpenFault.Damaged name)
         → NamesDamage (B.disk board.old).now stash.now name }
+    ensures lasts { IfOk result (λ _. Lasts (B.disk board.old) (B.disk board.new)) }
     ensures unchanged { Unchanged (B.disk board.old) (B.disk board.new) }
     ensures cause { HasCause (B.faults board.old) (B.faults board.new)
         (result ≡ Err OpenFault.Failed) }
@@ -139,7 +140,7 @@ fn read_home<B: Board>(
     let Ok(name) = stash.name() else {
         return Err(OpenFault::NoMemory);
     };
-    match stash.read(alloc, board) {
+    match stash.read_synced(alloc, board) {
         Ok(made) => Ok(state_of(made)),
         Err(RecordFault::Failed) => Err(OpenFault::Failed),
         Err(RecordFault::Damaged) => Err(OpenFault::Damaged(name)),
@@ -148,7 +149,8 @@ fn read_home<B: Board>(
 }
 
 impl<B: Board + Drop> Account<B> {
-    /// Opens an account at this moment, by what the board has of it. Nothing is changed.
+    /// Opens an account at this moment, by what the board has of it. Nothing is changed, and the directory is
+    /// synced first, so that no crash takes back what was found.
     ///
     /// `name` is an account name and `moment` below 2^40. A fault gives the board back.
     pub fn open(

@@ -5,7 +5,7 @@ ghost use Rattle.fault_count.specs.Causes.{HasCause};
 ghost use Rattle.fault_count.specs.Told.{Becomes};
 ghost use Rattle.board_model.specs.Disk.{Unchanged};
 ghost use Rattle.factor_machine.specs.Reload.{reloaded};
-ghost use Rattle.home_daemon.specs.Stash.{PutsAtMost, EachHas};
+ghost use Rattle.home_daemon.specs.Stash.{PutsAtMost, EachHas, Lasts};
 ghost use Rattle.home_daemon.specs.Home.{user_in, Holding, HoldsOutside, Creates};
 
 use crate::stash::{RecordFault, StashRecord};
@@ -58,6 +58,9 @@ pub(crate) fn reload<B: Board>(
     ensures unsure { OnErr result (home.old ≡ HomeState.Unsure) }
     ensures content { Becomes (B.disk board.old).now (B.disk board.new).now
         (Holding stash.now home.old home.new) }
+    // What an unsure home was found to be, it is after a crash too.
+    ensures lasts { IfOk result (λ _. home.old ≡ HomeState.Unsure
+        → Lasts (B.disk board.old) (B.disk board.new)) }
     ensures unchanged { Unchanged (B.disk board.old) (B.disk board.new) }
     ensures damaged { result ≡ Err RecordFault.Damaged
         → HoldsOutside (B.disk board.old).now stash.now }

@@ -5,7 +5,7 @@ ghost use Rattle.fault_count.specs.Causes.{HasCause};
 ghost use Rattle.fault_count.specs.Told.{Becomes};
 ghost use Rattle.board_model.specs.Disk.{Unchanged};
 ghost use Rattle.home_names.specs.Names.{is_account_name, stash_name};
-ghost use Rattle.home_daemon.specs.Stash.{stash_bytes, Has, IsOutside, Gets, KeepsOrGets, PutsAtMost, EachHas};
+ghost use Rattle.home_daemon.specs.Stash.{stash_bytes, Has, IsOutside, Gets, KeepsOrGets, PutsAtMost, EachHas, Lasts};
 
 use board_model::{Board, BoardFault};
 use ct_bytes::{Blob, NoMemory, Text};
@@ -159,13 +159,14 @@ impl StashRecord {
             (λ now. Has now.files self.now made)) }
         ensures damaged { result ≡ Err RecordFault.Damaged → IfSome (B.disk board.old).now
             (λ now. IsOutside now.files self.now) }
+        ensures lasts { IfOk result (λ _. Lasts (B.disk board.old) (B.disk board.new)) }
         ensures unchanged { Unchanged (B.disk board.old) (B.disk board.new) }
         ensures cause { HasCause (B.faults board.old) (B.faults board.new)
             (result ≡ Err RecordFault.Failed) }
     {
-        if board.sync_dir().is_err() {
-            return Err(RecordFault::Failed);
+        match board.sync_dir() {
+            Ok(()) => self.read(alloc, board),
+            Err(Failed) => Err(RecordFault::Failed),
         }
-        self.read(alloc, board)
     }
 }

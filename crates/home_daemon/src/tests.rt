@@ -74,7 +74,7 @@ fn after_a_renaming_that_failed_the_board_decides(rt: HostRuntime) -> Result<(),
         (false, Told::Before, Answer::Ok),
         (true, Told::After, Answer::Exists),
     ] {
-        let mut account = opened(alloc, &[BoardFail { call: 4, done }])?;
+        let mut account = opened(alloc, &[BoardFail { call: 5, done }])?;
         assert_eq!(rt; create(alloc, &mut account, 1000)?, Answer::StorageFault);
         assert_eq!(rt; create(alloc, &mut account, 1001)?, second);
         let book = closed(alloc, account, &RECORD)?;
@@ -87,9 +87,9 @@ fn after_a_renaming_that_failed_the_board_decides(rt: HostRuntime) -> Result<(),
 #[test]
 fn an_account_stays_unsettled_until_a_reload_works(rt: HostRuntime) -> Result<(), Fail> {
     let alloc = rt.alloc();
-    // the reload syncs the directory by the fifth call, and then reads by the sixth
-    for reload in [5, 6] {
-        let fails = [(4, true), (reload, false)].map(|(call, done)| BoardFail { call, done });
+    // the reload syncs the directory by the sixth call, and then reads by the seventh
+    for reload in [6, 7] {
+        let fails = [(5, true), (reload, false)].map(|(call, done)| BoardFail { call, done });
         let mut account = opened(alloc, &fails)?;
         assert_eq!(rt; create(alloc, &mut account, 1000)?, Answer::StorageFault);
         assert_eq!(rt; create(alloc, &mut account, 1001)?, Answer::StorageFault);
@@ -114,7 +114,7 @@ fn a_record_that_was_damaged_is_named_and_kept(rt: HostRuntime) -> Result<(), Fa
         let mut account = opened(
             alloc,
             &[BoardFail {
-                call: 4,
+                call: 5,
                 done: true,
             }],
         )?;
