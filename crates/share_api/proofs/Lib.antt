@@ -1,0 +1,4 @@
+pub mod FoldLaws
+pub mod RunLaws
+pub mod StepLaws
+pub mod TryLaws
