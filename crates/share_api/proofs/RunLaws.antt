@@ -4,7 +4,7 @@ use Rattle.std.proofs.lemmas.List.{map-append}
 use Rattle.std.specs.List.{AllByRecursion}
 use Rattle.fault_count.specs.Causes.{HasCause}
 use Rattle.share_api.specs.Places.{steps_of, place_from, place_after}
-use Rattle.share_api.specs.Steps.{Step}
+use Rattle.share_api.specs.declared.step.Step.{Step}
 use Rattle.share_api.specs.Seen.{ShareSeen, Makes, Runs, HasFailed}
 use Rattle.share_api.specs.declared.step.Reply.TheVariants.{Failed}
 

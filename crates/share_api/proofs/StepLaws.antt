@@ -3,7 +3,12 @@ use Rattle.std.proofs.Common.{◌≡◌, ℕ, List, [], ◌∷◌, None, refl, s
 use Rattle.std.specs.FinMap.{get}
 use Rattle.share_api.specs.Contents.{Contents, Era, settled, leaves_left}
 use Rattle.share_api.specs.Folds.{Fold, Throughout}
-use Rattle.share_api.specs.Steps.{NewLeaf, Write, Op, Reply, Step, leaf_of, with_leaf, doubted, done, after, Leads, Does, ThenReply, Follows, Along, AllDone, ThenLabel, FollowsInsert}
+use Rattle.share_api.specs.Steps.{leaf_of, with_leaf, doubted, done, after, Leads, Does, ThenReply, Follows, Along, AllDone, ThenLabel, FollowsInsert}
+use Rattle.share_api.specs.declared.leaf.NewLeaf.{NewLeaf}
+use Rattle.share_api.specs.declared.step.Write.{Write}
+use Rattle.share_api.specs.declared.step.Op.{Op}
+use Rattle.share_api.specs.declared.step.Reply.{Reply}
+use Rattle.share_api.specs.declared.step.Step.{Step}
 use Rattle.share_api.specs.declared.step.Write.TheVariants.{Put, Remove, RemoveLeaf}
 use Rattle.share_api.specs.declared.step.Op.TheVariants.{Do, InsertLeaf}
 use Rattle.share_api.specs.declared.step.Reply.TheVariants.{Done, Found, Listed, Labelled, Tried, Fits, Viewed, TreeLost, Damaged, Failed, NoMemory}

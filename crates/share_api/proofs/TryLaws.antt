@@ -1,7 +1,10 @@
 -- Calls of a share as tries of a list of changes.
 use Rattle.std.proofs.Common.{◌≡◌, ℕ, List, [], ◌∷◌, ◌++◌, Result, Ok, Err, refl, sym, ◌∙◌, subst, inl, inr, ⊎_elim, IsOk, IsErr, true≢false}
 use Rattle.std.specs.Prelude.{IsErrOf}
-use Rattle.share_api.specs.Steps.{Write, Step, Reply, ThenReply, Follows, AllDone}
+use Rattle.share_api.specs.Steps.{ThenReply, Follows, AllDone}
+use Rattle.share_api.specs.declared.step.Write.{Write}
+use Rattle.share_api.specs.declared.step.Step.{Step}
+use Rattle.share_api.specs.declared.step.Reply.{Reply}
 use Rattle.share_api.specs.Seen.{ShareSeen, Makes, Tries, HasFailed, step_of}
 use Rattle.share_api.specs.Replies.{done_reply}
 use Rattle.share_api.specs.declared.step.Op.TheVariants.{Do}

@@ -3,7 +3,7 @@ use Rattle.std.specs.Prelude.{ℕ, List, Option, None, Some}
 use Rattle.std.specs.Ordering.{nat_cmp}
 use Rattle.std.specs.Cmp.Lexicographic.{slice_cmp}
 use Rattle.std.specs.FinMap.{FinMap, remove, empty}
-use Rattle.pw_types.specs.declared.stamp.Stamp.{Stamp}
+use Rattle.share_api.specs.declared.leaf.Leaf.{Leaf}
 
 abbrev pub Bytes : Type 0
 Bytes = List ℕ
@@ -12,15 +12,6 @@ Bytes = List ℕ
 pub record Era : Type 0 where
   pub boot : ℕ
   pub start : ℕ
-
--- a leaf: its low-entropy, high-entropy and reset secret, its schedule, and its wrong tries
-pub record Leaf : Type 0 where
-  pub les : Bytes
-  pub hes : Bytes
-  pub reset : Bytes
-  pub schedule : List (ℕ × ℕ)
-  pub wrong : ℕ
-  pub last : Stamp
 
 abbrev pub Records : Type 0
 Records = FinMap (slice_cmp nat_cmp) Bytes

@@ -4,7 +4,11 @@ use Rattle.std.specs.List.{AllByRecursion}
 use Rattle.fault_count.specs.Causes.{HasCause}
 use Rattle.share_api.specs.Contents.{Bytes, Era}
 use Rattle.share_api.specs.Places.{steps_of, place_after}
-use Rattle.share_api.specs.Steps.{Op, Reply, Step, Write, Follows, AllDone}
+use Rattle.share_api.specs.Steps.{Follows, AllDone}
+use Rattle.share_api.specs.declared.step.Op.{Op}
+use Rattle.share_api.specs.declared.step.Reply.{Reply}
+use Rattle.share_api.specs.declared.step.Step.{Step}
+use Rattle.share_api.specs.declared.step.Write.{Write}
 use Rattle.share_api.specs.declared.step.Reply.TheVariants.{Failed}
 
 -- All that a contract sees of a share: whose it is, the steps that it made, each with its place, and the

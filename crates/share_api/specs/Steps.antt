@@ -5,18 +5,19 @@ use Rattle.pw_types.specs.Delay.{readiness}
 use Rattle.pw_types.specs.declared.stamp.Stamp.{Stamp}
 use Rattle.pw_types.specs.declared.delay.Readiness.{Readiness}
 use Rattle.pw_types.specs.declared.delay.Readiness.TheVariants as readinesses
-use Rattle.share_api.specs.Contents.{Bytes, Contents, Era, Leaf, settled}
-pub use Rattle.share_api.specs.declared.leaf.NewLeaf.{NewLeaf}
-pub use Rattle.share_api.specs.declared.leaf.LeafView.{LeafView}
-pub use Rattle.share_api.specs.declared.leaf.TryAnswer.{TryAnswer}
+use Rattle.share_api.specs.Contents.{Bytes, Contents, Era, settled}
+use Rattle.share_api.specs.declared.leaf.Leaf.{Leaf}
+use Rattle.share_api.specs.declared.leaf.NewLeaf.{NewLeaf}
+use Rattle.share_api.specs.declared.leaf.LeafView.{LeafView}
+use Rattle.share_api.specs.declared.leaf.TryAnswer.{TryAnswer}
 use Rattle.share_api.specs.declared.leaf.TryAnswer.TheVariants.{Right, Wrong, Delayed, Locked}
-pub use Rattle.share_api.specs.declared.step.Write.{Write}
+use Rattle.share_api.specs.declared.step.Write.{Write}
 use Rattle.share_api.specs.declared.step.Write.TheVariants.{Put, Remove, RemoveLeaf}
-pub use Rattle.share_api.specs.declared.step.Op.{Op}
+use Rattle.share_api.specs.declared.step.Op.{Op}
 use Rattle.share_api.specs.declared.step.Op.TheVariants.{Names, Get, Do, InsertLeaf, TryLeaf, ResetLeaf, LookLeaf}
-pub use Rattle.share_api.specs.declared.step.Reply.{Reply}
+use Rattle.share_api.specs.declared.step.Reply.{Reply}
 use Rattle.share_api.specs.declared.step.Reply.TheVariants.{Done, Found, Listed, Labelled, Tried, Fits, Viewed, TreeLost, Damaged, Failed, NoMemory}
-pub use Rattle.share_api.specs.declared.step.Step.{Step}
+use Rattle.share_api.specs.declared.step.Step.{Step}
 
 -- ---- leaves
 

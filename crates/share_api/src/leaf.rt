@@ -16,6 +16,23 @@ pub struct NewLeaf {
     pub schedule: Schedule,
 }
 
+/// A leaf as plain data.
+#[derive(Clone, Copy, Debug, PartialEq, Eq)]
+pub struct Leaf {
+    /// The low-entropy secret.
+    pub les: Hash,
+    /// The high-entropy secret.
+    pub hes: Hash,
+    /// The reset secret.
+    pub reset: Hash,
+    /// The delay schedule.
+    pub schedule: Schedule,
+    /// How many wrong tries there were since it was last released or reset.
+    pub wrong: u32,
+    /// When the last of them came, and boot 0 and moment 0 where there were none.
+    pub last: Stamp,
+}
+
 /// What anybody may know of a leaf.
 #[derive(Clone, Copy, Debug, PartialEq, Eq)]
 pub struct LeafView {

@@ -8,7 +8,7 @@ mod share;
 mod step;
 
 pub use fault::ShareFault;
-pub use leaf::{LeafView, NewLeaf, TryAnswer};
+pub use leaf::{Leaf, LeafView, NewLeaf, TryAnswer};
 pub use listing::Listing;
 pub use record_names::RecordName;
 pub use share::Share;

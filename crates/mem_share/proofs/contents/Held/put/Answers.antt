@@ -1,0 +1,14 @@
+use Rattle.std.proofs.Common.{ap}
+use Rattle.std.specs.Ordering.{nat_cmp}
+use Rattle.std.specs.Cmp.Lexicographic.{slice_cmp, nat_list_cmp_total}
+use Rattle.std.specs.FinMap.{nat_cmp-IsAntisymmetric, slice_cmp-IsAntisymmetric}
+use Rattle.share_api.specs.Contents.{Contents, Records}
+use Rattle.mem_share.specs.Held.{leaves_of}
+use Rattle.mem_share.proofs.MapLemmas.{inserted}
+use Rattle.mem_share.proofs.contents.Held.put.Goals as goal
+
+pub returns-clause-ok : goal.returns-clause-ok
+returns-clause-ok c =
+    let held = c.args.self.now in
+    let with : Records → Contents = λ m. record { records = m; leaves = leaves_of held; doubt = held.doubt } in
+    ap with (inserted (slice_cmp nat_cmp) nat_list_cmp_total (slice_cmp-IsAntisymmetric nat_cmp-IsAntisymmetric) held.records c.insert.new.self c.args.name c.args.bytes c.in_ok-insert.ensures.updates)
