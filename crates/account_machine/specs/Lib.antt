@@ -1,0 +1,10 @@
+pub mod Outline
+pub mod Sessions
+pub mod Answers
+pub mod Asked
+pub mod User
+pub mod Row
+pub mod Effect
+pub mod Step
+pub mod Legal
+pub mod Called

@@ -1,0 +1,5 @@
+pub mod Listed
+pub mod RowLaws
+pub mod Saying
+pub mod Tails
+pub mod Choosing
