@@ -1,0 +1,4 @@
+pub mod PathLemmas
+pub mod StandLemmas
+pub mod RecoveryLemmas
+pub mod DoubtLemmas

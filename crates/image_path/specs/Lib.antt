@@ -1,0 +1,3 @@
+pub mod Showing
+pub mod Paths
+pub mod Doubt
