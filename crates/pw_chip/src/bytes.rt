@@ -8,7 +8,7 @@ use ct_bytes::Writer;
 use pw_leaf::fields::{hash_at, u16_at, u64_at};
 use pw_log::{LogEntry, RESET, RIGHT, TRY, WRONG};
 use pw_path::LABELS;
-use pw_types::Stamp;
+use pw_types::{LAST_MOMENT, Stamp};
 
 /// The bytes of a chip's words.
 pub const WORDS_BYTES: usize = 256;
@@ -29,9 +29,6 @@ pub(crate) const NEWEST_AT: usize = 81;
 pub(crate) const OLDER_AT: usize = 165;
 
 pub(crate) const REST_AT: usize = 249;
-
-/// Moments are below this.
-pub(crate) const MOMENTS: u64 = 1 << 40;
 
 /// Why bytes are no words.
 #[derive(Clone, Copy, Debug, PartialEq, Eq)]
@@ -77,7 +74,7 @@ pub(crate) fn entry_at(bytes: &[u8], at: usize) -> Result<LogEntry, WordsFault>
         return Err(WordsFault::BadWords(at + 67));
     }
     let moment = u64_at(bytes, at + 76);
-    if moment >= MOMENTS {
+    if moment > LAST_MOMENT {
         return Err(WordsFault::BadWords(at + 76));
     }
     Ok(LogEntry {

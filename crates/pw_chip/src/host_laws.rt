@@ -15,11 +15,13 @@ ghost use Rattle.pw_chip.specs.Standing.{Stands, true_path};
 /// A leaf that stands in the tree is answered when its record is shown with its true path: a try and a
 /// reset by what it holds, a replay by the record that the newest entry made, and a remove is done.
 pub fn standing_leaf_is_answered()
-    ensures tried { (w : ChipState) (leaves : ℕ → Option Contents) (label : ℕ) (x : Contents) (les : List ℕ) (now : ℕ)
+    ensures tried { (w : ChipState) (leaves : ℕ → Option Contents) (label : ℕ) (x : Contents)
+        (les : List ℕ) (now : ℕ)
         → Stands w.keys leaves w.log.newest.root label x
         → (step w (Try label (true_path w.keys leaves label) (leaf_bytes w.keys x) les) now).0
         ≡ tried w.keys x les (record { boot = w.boot; at = now }) w.start }
-    ensures reset { (w : ChipState) (leaves : ℕ → Option Contents) (label : ℕ) (x : Contents) (reset : List ℕ) (now : ℕ)
+    ensures reset { (w : ChipState) (leaves : ℕ → Option Contents) (label : ℕ) (x : Contents)
+        (reset : List ℕ) (now : ℕ)
         → Stands w.keys leaves w.log.newest.root label x
         → (step w (Reset label (true_path w.keys leaves label) (leaf_bytes w.keys x) reset) now).0
         ≡ reset_at w.keys x reset }

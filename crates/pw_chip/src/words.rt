@@ -7,7 +7,7 @@ ghost use Rattle.pw_chip.specs.State.{new_state, booted, blank_entry};
 ghost use Rattle.pw_chip.specs.Step.{logged};
 
 use crate::bytes::{
-    BOOT_AT, CIPHER_KEY_AT, MAC_KEY_AT, MOMENTS, NEWEST_AT, OLDER_AT, REST_AT, START_AT, VERSION,
+    BOOT_AT, CIPHER_KEY_AT, MAC_KEY_AT, NEWEST_AT, OLDER_AT, REST_AT, START_AT, VERSION,
     WORDS_BYTES, WordsFault, entry_at, entry_bytes,
 };
 use ct_bytes::Writer;
@@ -15,7 +15,7 @@ use pw_leaf::ChipKeys;
 use pw_leaf::fields::{hash_at, u64_at};
 use pw_log::{BLANK, Log, LogEntry, NO_VERDICT};
 use pw_path::{Hash, LEVELS, empty_roots};
-use pw_types::Stamp;
+use pw_types::{LAST_MOMENT, Stamp};
 use std::marker::Model;
 
 /// A chip's words: its keys, the number of the present boot and the moment at which it began, and its log.
@@ -92,7 +92,7 @@ impl Words {
             return Err(WordsFault::BadWords(BOOT_AT));
         }
         let start = u64_at(bytes, START_AT);
-        if start >= MOMENTS {
+        if start > LAST_MOMENT {
             return Err(WordsFault::BadWords(START_AT));
         }
         let newest = match entry_at(bytes, NEWEST_AT) {

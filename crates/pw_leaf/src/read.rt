@@ -28,10 +28,7 @@ use crate::leaf::{LEAF_BYTES, Leaf, PublicLeaf};
 use crate::write::hide;
 use hmac_sha::mac;
 use pw_path::{Hash, Label};
-use pw_types::{MOST_PAIRS, Schedule, Stamp};
-
-/// Moments are below this.
-const MOMENTS: u64 = 1 << 40;
+use pw_types::{LAST_MOMENT, MOST_PAIRS, Schedule, Stamp};
 
 /// Reads a leaf.
 ///
@@ -111,7 +108,7 @@ fn shown(bytes: &[u8]) -> Result<PublicLeaf, LeafFault>
     if wrong == 0 && last.boot > 0 {
         return Err(LeafFault::BadShape(BOOT_AT));
     }
-    if last.at >= MOMENTS || (wrong == 0 && last.at > 0) {
+    if last.at > LAST_MOMENT || (wrong == 0 && last.at > 0) {
         return Err(LeafFault::BadShape(MOMENT_AT));
     }
     let mac = hash_at(bytes, MAC_AT);

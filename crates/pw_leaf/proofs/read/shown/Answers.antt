@@ -17,7 +17,7 @@ returns c =
     let right = shape_fault-none bytes within c.if-count-eq0.false c.if-count-gt-MOST_PAIRS.false (sym c.in-Some-schedule_in.ensures.tested)
     (rw (← c.u32_at-wrong.ensures) limit)
     (rw (← c.u32_at-wrong.ensures, ← c.u64_at.ensures) c.else-wrong-eq0.either)
-    (rw (← c.u64_at-2.ensures) c.if-last-ge-MOMENTS.false)
+    (rw (← c.u64_at-2.ensures) (let last = c.if-last-gt-LAST_MOMENT.false in omega arith))
     (rw (← c.u32_at-wrong.ensures, ← c.u64_at-2.ensures) c.if-last-gt0-2.either) in
     let wrong = c.u32_at-wrong.ensures in
     let boot = c.u64_at.ensures in
