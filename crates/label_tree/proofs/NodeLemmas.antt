@@ -13,27 +13,35 @@ use Rattle.label_tree.specs.Nodes.{level_of, four, IsNode, AreNodesBut, IsKept, 
 
 -- ---- levels
 
+-- the first 4,096 inner nodes are on level 1
 level_1 : (k : ℕ) → k < 4096 → level_of k ≡ 1
 level_1 k h = rw (lt-ltb k 4096 h) refl
 
+-- the next 1,024 on level 2
 level_2 : (k : ℕ) → 4096 ≤ k → k < 5120 → level_of k ≡ 2
 level_2 k l h = rw (le-ltb k 4096 l, lt-ltb k 5120 h) refl
 
+-- the next 256 on level 3
 level_3 : (k : ℕ) → 5120 ≤ k → k < 5376 → level_of k ≡ 3
 level_3 k l h = rw (le-ltb k 4096 (omega arith), le-ltb k 5120 l, lt-ltb k 5376 h) refl
 
+-- the next 64 on level 4
 level_4 : (k : ℕ) → 5376 ≤ k → k < 5440 → level_of k ≡ 4
 level_4 k l h = rw (le-ltb k 4096 (omega arith), le-ltb k 5120 (omega arith), le-ltb k 5376 l, lt-ltb k 5440 h) refl
 
+-- the next 16 on level 5
 level_5 : (k : ℕ) → 5440 ≤ k → k < 5456 → level_of k ≡ 5
 level_5 k l h = rw (le-ltb k 4096 (omega arith), le-ltb k 5120 (omega arith), le-ltb k 5376 (omega arith), le-ltb k 5440 l, lt-ltb k 5456 h) refl
 
+-- the next 4 on level 6
 level_6 : (k : ℕ) → 5456 ≤ k → k < 5460 → level_of k ≡ 6
 level_6 k l h = rw (le-ltb k 4096 (omega arith), le-ltb k 5120 (omega arith), le-ltb k 5376 (omega arith), le-ltb k 5440 (omega arith), le-ltb k 5456 l, lt-ltb k 5460 h) refl
 
+-- the last one is the root, on level 7
 level_7 : (k : ℕ) → 5460 ≤ k → level_of k ≡ 7
 level_7 k l = rw (le-ltb k 4096 (omega arith), le-ltb k 5120 (omega arith), le-ltb k 5376 (omega arith), le-ltb k 5440 (omega arith), le-ltb k 5456 (omega arith), le-ltb k 5460 l) refl
 
+-- no inner node is on level 0
 level_some : (k : ℕ) → 1 ≤ level_of k
 level_some k =
     elim (cases_lt k 4096) [
@@ -58,10 +66,12 @@ level_some k =
 
 -- ---- a level's nodes stand one after another, from a place on
 
+-- from this place on stand so many of a level's nodes
 abbrev IsLevel : List (List ℕ) → (ℕ → List ℕ) → ℕ → ℕ → ℕ → Type 0
 IsLevel nodes values first level count = (i : ℕ) → i < count → value_in nodes (first + i) ≡ node_at values level i
 
 module _ (nodes : List (List ℕ)) (values : ℕ → List ℕ) where
+  -- the four hashes below an inner node are its children
   four_children : (k0 level count i : ℕ) → IsLevel nodes values (4 * k0) level (4 * count) → i < count → four nodes (4 * (k0 + i)) ≡ children_at values level i
   four_children k0 level count i below lt =
       let at : (c : ℕ) → c < 4 → value_in nodes (4 * (k0 + i) + c) ≡ node_at values level (4 * i + c) =
@@ -69,6 +79,7 @@ module _ (nodes : List (List ℕ)) (values : ℕ → List ℕ) where
       let e0 : value_in nodes (4 * (k0 + i)) ≡ node_at values level (4 * i) = let e : 4 * (k0 + i) ≡ 4 * k0 + 4 * i = omega arith in rw e (below (4 * i) (omega arith)) in
       λ j. e0 j ∷ at 1 (omega arith) j ∷ at 2 (omega arith) j ∷ at 3 (omega arith) j ∷ []
 
+  -- where a level stands, the level above it stands behind
   level_next : ((k : ℕ) → k < 5461 → IsNode nodes k) → (k0 level count : ℕ) → k0 + count ≤ 5461 → ((i : ℕ) → i < count → level_of (k0 + i) ≡ suc level)
       → IsLevel nodes values (4 * k0) level (4 * count) → IsLevel nodes values (16384 + k0) (suc level) count
   unfolding node_at
@@ -77,6 +88,7 @@ module _ (nodes : List (List ℕ)) (values : ℕ → List ℕ) where
       let e : 16384 + k0 + i ≡ 16384 + (k0 + i) = omega arith in
       rw e (is ∙ (λ j. sha256 (node_input (levels i lt j) (four_children k0 level count i below lt j))))
 
+  -- where the rows above a level are its nodes' siblings, so are those of the level
   rows_next : (k0 level count n : ℕ) → IsLevel nodes values (4 * k0) level (4 * count)
       → ((i : ℕ) → i < count → rows_at nodes (16384 + k0 + i) n ≡ siblings values (suc level) i n)
       → (i : ℕ) → i < 4 * count → rows_at nodes (4 * k0 + i) (suc n) ≡ siblings values level i (suc n)
@@ -92,31 +104,40 @@ module _ (nodes : List (List ℕ)) (values : ℕ → List ℕ) where
 -- ---- all levels
 
 module _ (nodes : List (List ℕ)) (kept : (k : ℕ) → k < 5461 → IsNode nodes k) where
+  -- the labels' values
   values : ℕ → List ℕ
   values = value_in (take 16384 nodes)
 
+  -- level 0 are the labels' values
   at_0 : IsLevel nodes values 0 0 16384
   unfolding node_at values
   at_0 i lt = let e : 0 + i ≡ i = omega arith in rw e (sym (get_or-take 16384 nodes i no_hash lt))
 
+  -- level 1 stands from place 16,384 on
   at_1 : IsLevel nodes values 16384 1 4096
   at_1 = level_next nodes values kept 0 0 4096 (omega arith) (λ i lt. level_1 (0 + i) (omega arith)) at_0
 
+  -- level 2 from place 20,480 on
   at_2 : IsLevel nodes values 20480 2 1024
   at_2 = level_next nodes values kept 4096 1 1024 (omega arith) (λ i lt. level_2 (4096 + i) (omega arith) (omega arith)) at_1
 
+  -- level 3 from place 21,504 on
   at_3 : IsLevel nodes values 21504 3 256
   at_3 = level_next nodes values kept 5120 2 256 (omega arith) (λ i lt. level_3 (5120 + i) (omega arith) (omega arith)) at_2
 
+  -- level 4 from place 21,760 on
   at_4 : IsLevel nodes values 21760 4 64
   at_4 = level_next nodes values kept 5376 3 64 (omega arith) (λ i lt. level_4 (5376 + i) (omega arith) (omega arith)) at_3
 
+  -- level 5 from place 21,824 on
   at_5 : IsLevel nodes values 21824 5 16
   at_5 = level_next nodes values kept 5440 4 16 (omega arith) (λ i lt. level_5 (5440 + i) (omega arith) (omega arith)) at_4
 
+  -- level 6 from place 21,840 on
   at_6 : IsLevel nodes values 21840 6 4
   at_6 = level_next nodes values kept 5456 5 4 (omega arith) (λ i lt. level_6 (5456 + i) (omega arith) (omega arith)) at_5
 
+  -- level 7 at place 21,844
   at_7 : IsLevel nodes values 21844 7 1
   at_7 = level_next nodes values kept 5460 6 1 (omega arith) (λ i lt. level_7 (5460 + i) (omega arith)) at_6
 
@@ -125,6 +146,7 @@ module _ (nodes : List (List ℕ)) (kept : (k : ℕ) → k < 5461 → IsNode nod
   unfolding values
   root_kept = at_7 0 (omega arith)
 
+  -- above the root there is no row
   rows_0 : (i : ℕ) → i < 1 → rows_at nodes (21844 + i) 0 ≡ siblings values 7 i 0
   unfolding rows_at siblings
   rows_0 i lt = refl
@@ -147,6 +169,7 @@ module _ (nodes : List (List ℕ)) (kept : (k : ℕ) → k < 5461 → IsNode nod
 -- ---- one place changes
 
 module _ (nodes : List (List ℕ)) (p : ℕ) (x : List ℕ) where
+  -- a write changes no four hashes but those that have it
   four_stay : (k : ℕ) → k ≢ p / 4 → four (slice_set nodes p x) (4 * k) ≡ four nodes (4 * k)
   four_stay k ne =
       let at : (c : ℕ) → c < 4 → value_in (slice_set nodes p x) (4 * k + c) ≡ value_in nodes (4 * k + c) = λ c h. get_or-set_other nodes p (4 * k + c) x no_hash (λ e. ne (omega arith)) in
@@ -159,9 +182,11 @@ module _ (nodes : List (List ℕ)) (p : ℕ) (x : List ℕ) where
       get_or-set_other nodes p (16384 + k) x no_hash away ∙ is
       ∙ sym (ap (λ cs. sha256 (node_input (level_of k) cs)) (four_stay k ne))
 
+-- a label's new value leaves each node but the one right above it
 pub leaf_changed : (nodes : List (List ℕ)) (label : ℕ) (x : List ℕ) → label < 16384 → IsKept nodes → AreNodesBut (label / 4) (slice_set nodes label x)
 leaf_changed nodes label x lt kept = λ k h ne. node_stays nodes label x k (λ e. omega arith) ne (kept.each k h)
 
+-- a renewed node is one, and leaves each but the one right above it
 pub node_renewed : (nodes : List (List ℕ)) (k : ℕ) (x : List ℕ) → k < 5461 → length nodes ≡ 21845 → AreNodesBut k nodes
     → x ≡ sha256 (node_input (level_of k) (four nodes (4 * k))) → AreNodesBut ((16384 + k) / 4) (slice_set nodes (16384 + k) x)
 node_renewed nodes k x lt size but is = λ j h ne.
@@ -178,6 +203,7 @@ node_renewed nodes k x lt size but is = λ j h ne.
 pub value_kept : (nodes : List (List ℕ)) (label : ℕ) → label < 16384 → value_in (take 16384 nodes) label ≡ value_in nodes label
 value_kept nodes label lt = get_or-take 16384 nodes label no_hash lt
 
+-- a number past the labels has no value
 past_end : (nodes : List (List ℕ)) (i : ℕ) → length nodes ≡ 21845 → 16384 ≤ i → value_in (take 16384 nodes) i ≡ no_hash
 past_end nodes i size h =
     let l : length (take 16384 nodes) ≡ 16384 = length-take-le 16384 nodes (omega arith) in
@@ -218,6 +244,7 @@ pub below_next : (at n : ℕ) → at + places_above (suc n) ≤ 21844 → (at < 
 unfolding places_above
 below_next at n h = (omega arith, omega arith)
 
+-- above a label there are seven levels
 pub below_start : (at : ℕ) → at < 16384 → at + places_above 7 ≤ 21844
 unfolding places_above
 below_start at h = omega arith
@@ -231,6 +258,7 @@ rows_more nodes rows at level n row h e =
     ∙ append_assoc (take level rows) (row ∷ []) (rows_at nodes (16384 + at / 4) n)
     ∙ ap (λ r. take level rows ++ r ∷ rows_at nodes (16384 + at / 4) n) e
 
+-- no levels have no rows
 pub rows_none : (nodes : List (List ℕ)) (at : ℕ) → rows_at nodes at 0 ≡ []
 unfolding rows_at
 rows_none nodes at = refl
@@ -259,6 +287,7 @@ level_below k j lt h l r =
 
 module _ (nodes : List (List ℕ)) (leaves : (i : ℕ) → i < 16384 → value_in nodes i ≡ no_hash)
     (inner : (j : ℕ) → j < 5461 → value_in nodes (16384 + j) ≡ node_at (λ _. no_hash) (level_of j) 0) where
+  -- the node of a level over labels that are all empty
   empty_node : ℕ → List ℕ
   empty_node level = node_at (λ _. no_hash) level 0
 
@@ -276,6 +305,7 @@ module _ (nodes : List (List ℕ)) (leaves : (i : ℕ) → i < 16384 → value_i
             rw (p, e) (inner j (omega arith))
       ]
 
+  -- where each place has the empty node of its level, each inner node is one
   pub empty_nodes_kept : (k : ℕ) → k < 5461 → IsNode nodes k
   empty_nodes_kept k lt = at_level (level_of k) refl
     where
@@ -294,6 +324,7 @@ least_kept nodes None h = λ i lt e. h i lt (sym (value_kept nodes i lt) ∙ e)
 
 -- ---- used labels
 
+-- below 0 no label is used
 pub used_none : (nodes : List (List ℕ)) → used_below (value_in nodes) 0 ≡ 0
 unfolding used_below
 used_none nodes = refl
@@ -308,6 +339,7 @@ pub used_grows : (nodes : List (List ℕ)) (n count : ℕ) → count ≡ used_be
 unfolding used_below
 used_grows nodes n count is used = rw (add-one n, used, add-one count) (ap suc is)
 
+-- the used labels of the front are those of the whole list
 pub used_kept : (nodes : List (List ℕ)) (n : ℕ) → n ≤ 16384 → used_below (value_in (take 16384 nodes)) n ≡ used_below (value_in nodes) n
 unfolding used_below
 used_kept nodes zero h = refl

@@ -14,6 +14,7 @@ use Rattle.log_replay.specs.Replaying.{plan_of, applied}
 use Rattle.pin_ops.specs.declared.answer.Resync.{Resync}
 use Rattle.pin_ops.specs.declared.answer.Resync.TheVariants.{InStep, Inserted, Put, Removed, Emptied, Lost}
 
+-- nothing can be redone here
 abbrev pub lost : ChipState → (ℕ → List ℕ) → Resync
 lost w values = Lost (root values) w.log.newest.root
 

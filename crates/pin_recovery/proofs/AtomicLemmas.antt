@@ -33,6 +33,7 @@ use Rattle.pin_recovery.proofs.BehindLemmas.{in_step_recovers, with_entry, in_st
 
 -- ---- a new log entry
 
+-- a call that changes nothing is crash-atomic
 stays : (d : Devices) → AreInStep d → IsCrashAtomic d d
 stays d h = let r = in_step_recovers d h in record { after = h; first = r; middle = inl r; last = r }
 
@@ -89,12 +90,14 @@ try_none : (w : ChipState) (label : ℕ) (aux : List (List (List ℕ))) (les : L
 unfolding try_step opened check_at look_at
 try_none w label aux les now lt = rw (lt-ltb label 16384 lt) refl
 
+-- nor for a reset
 reset_none : (w : ChipState) (label : ℕ) (aux : List (List (List ℕ))) (reset : List ℕ) (now : ℕ) → label < 16384 → reset_step w label aux [] reset now ≡ (LeafInvalid (BadLength 0), w)
 unfolding reset_step opened check_at look_at
 reset_none w label aux reset now lt = rw (lt-ltb label 16384 lt) refl
 
 -- ---- the calls
 
+-- a try, by its answer
 try_carried : (d : Devices) (label : ℕ) (les : List ℕ) (now : ℕ) (o : Option Contents) → d.leaves label ≡ o → AreInStep d → label < 16384 → now < 2 ^ 40
     → IsCarriedOut d label (Try label (aux_of (tree_of d) label) (record_of d.words.keys o) les) now (step d.words (Try label (aux_of (tree_of d) label) (record_of d.words.keys o) les) now)
 unfolding step try_step leaves_after
@@ -129,6 +132,7 @@ try_carried d label les now (Some x) there h lt small =
     })
     (λ u. record { crash = stays d h; tree = refl }) (record { crash = stays d h; tree = refl }))
 
+-- a reset, by its answer
 reset_carried : (d : Devices) (label : ℕ) (reset : List ℕ) (now : ℕ) (o : Option Contents) → d.leaves label ≡ o → AreInStep d → label < 16384
     → IsCarriedOut d label (Reset label (aux_of (tree_of d) label) (record_of d.words.keys o) reset) now (step d.words (Reset label (aux_of (tree_of d) label) (record_of d.words.keys o) reset) now)
 unfolding step reset_step leaves_after
@@ -154,6 +158,7 @@ reset_carried d label reset now (Some x) there h lt =
     })
     (record { crash = stays d h; tree = refl }))
 
+-- an insert, accepted or refused
 insert_carried : (d : Devices) (label : ℕ) (les hes reset : List ℕ) (schedule : List (ℕ × ℕ)) (iv : List ℕ) (now : ℕ) → AreInStep d → IsContents (new_contents label les hes reset schedule iv)
     → IsCarriedOut d label (Insert label (aux_of (tree_of d) label) (tree_of d label) les hes reset schedule iv) now (step d.words (Insert label (aux_of (tree_of d) label) (tree_of d label) les hes reset schedule iv) now)
 unfolding step insert_step leaves_after
@@ -182,6 +187,7 @@ insert_carried d label les hes reset schedule iv now h good =
     (λ _. record { crash = stays d h; tree = refl }))
     (λ _. record { crash = stays d h; tree = refl })
 
+-- a remove, done or refused
 remove_carried : (d : Devices) (label now : ℕ) → AreInStep d → label < 16384
     → IsCarriedOut d label (Remove label (aux_of (tree_of d) label) (tree_of d label)) now (step d.words (Remove label (aux_of (tree_of d) label) (tree_of d label)) now)
 unfolding step remove_step leaves_after
@@ -204,6 +210,7 @@ remove_carried d label now h lt =
     (λ _. record { crash = stays d h; tree = refl }))
     (λ _. record { crash = stays d h; tree = refl })
 
+-- each of the four
 carried : (d : Devices) (op : LeafOp) (now : ℕ) → AreInStep d → IsLeafOp op → now < 2 ^ 40
     → IsCarriedOut d (label_of op) (call_of d.words.keys d.leaves op) now (step d.words (call_of d.words.keys d.leaves op) now)
 unfolding call_of IsLeafOp

@@ -37,6 +37,7 @@ use Rattle.pin_recovery.proofs.LeafLemmas.{root_leaf, values_with, leaves_with, 
 
 -- ---- the log's answer
 
+-- a host with the newest root is in step
 pub resynced-in_step : (w : ChipState) (v : ℕ → List ℕ) (leaf : Option (List ℕ)) → w.log.newest.root ≡ root v → resynced w v leaf ≡ resync.InStep
 unfolding resynced
 resynced-in_step w v leaf e = rw (same_root w.log.newest.root (root v) e) refl
@@ -53,6 +54,7 @@ resynced-behind w v leaf answer ne e reaches is =
 
 -- ---- opening by a known answer
 
+-- devices whose resync has this answer recover by it
 pub recovers_by : (d : Devices) (t : Leaves) (answer : Resync) → resync_of d ≡ answer → IsFound answer → leaves_by d.words.keys answer d.leaves ≡ t
     → tree_by answer d.words.log.newest.mac (tree_of d) ≡ values d.words.keys t
     → ((now : ℕ) → now < 2 ^ 40 → AreInStep (record { words = words_by d.words (tree_of d) answer now; leaves = leaves_by d.words.keys answer d.leaves }))
@@ -71,6 +73,7 @@ in_step_recovers d h =
 
 -- ---- a new log entry
 
+-- the words with one more entry
 abbrev pub with_entry : ChipState → LogEntry → ChipState
 with_entry w e = record w { log = pushed w.log e }
 
@@ -101,6 +104,7 @@ asked : (w : ChipState) (v : ℕ → List ℕ) (leaf : Option (List ℕ)) → Ch
 unfolding missing
 asked w v leaf h = rw h.insert (rw h.remove (rw h.tree (rw h.either refl)))
 
+-- the chip gives the record, and opening puts it
 pub leaf_behind : (d : Devices) (label : ℕ) (x : Contents) (e : LogEntry) → AreInStep d → label < 16384 → d.leaves label ≡ Some x → e.label ≡ label → is_replayed e label ≡ true
     → Changes e → is_full e.verdict x ≡ false → IsContents (redone_by e.verdict e.stamp x) → (redone_by e.verdict e.stamp x).label ≡ label
     → e.mac ≡ leaf_mac d.words.keys (redone_by e.verdict e.stamp x) → e.root ≡ root_of label e.mac (aux_of (tree_of d) label)
@@ -136,14 +140,17 @@ leaf_behind d label x e h lt there el is changes room good own m r ne =
 
 -- ---- one entry behind: an insert, which opening undoes
 
+-- the entry of a leaf's removal
 abbrev pub removal : ChipState → ℕ → List (List (List ℕ)) → ℕ → LogEntry
 removal w label aux now = record { operation = REMOVE; label = label; root = root_of label no_hash aux; mac = no_hash; verdict = NO_VERDICT; stamp = record { boot = w.boot; at = now } }
 
+-- a remove by the MAC that stands there is done
 pub remove_done : (w : ChipState) (label : ℕ) (aux : List (List (List ℕ))) (mac : List ℕ) (now : ℕ) → label < 16384 → root_of label mac aux ≡ w.log.newest.root → mac ≢ no_hash
     → remove_step w label aux mac now ≡ (Done, logged w (removal w label aux now))
 unfolding remove_step
 remove_done w label aux mac now lt e ne = rw (lt-ltb label 16384 lt) (rw (same_root (root_of label mac aux) w.log.newest.root e) (rw (other_root mac no_hash ne) refl))
 
+-- other labels keep their values
 agree : (v : ℕ → List ℕ) (label : ℕ) (hash : List ℕ) → AgreeBut label v (with_value v label hash)
 unfolding AgreeBut
 agree v label hash = λ j ne. set_value_other v label hash j ne
@@ -173,6 +180,7 @@ taken_again v label hash zero =
     ] in
     λ j i. at i j
 
+-- opening sets the value, and the chip removes the leaf again
 pub insert_behind : (d : Devices) (label : ℕ) (y : Contents) (stamp : Stamp) → AreInStep d → label < 16384 → tree_of d label ≡ no_hash
     → root_of label (leaf_mac d.words.keys y) (aux_of (tree_of d) label) ≢ d.words.log.newest.root
     → Recovers (record { words = with_entry d.words (leaf_entry d.words.keys INSERT NO_VERDICT label (aux_of (tree_of d) label) y stamp); leaves = d.leaves }) d.leaves
@@ -192,6 +200,7 @@ insert_behind d label y stamp h lt zero ne =
 
 -- ---- one entry behind: a remove
 
+-- opening removes the record
 pub remove_behind : (d : Devices) (label now : ℕ) → AreInStep d → label < 16384
     → root_of label no_hash (aux_of (tree_of d) label) ≢ d.words.log.newest.root
     → Recovers (record { words = with_entry d.words (removal d.words label (aux_of (tree_of d) label) now); leaves = d.leaves }) (with_leaf d.leaves label None)

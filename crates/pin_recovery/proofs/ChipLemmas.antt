@@ -19,9 +19,11 @@ use Rattle.pw_chip.specs.declared.reply.Reply.TheVariants.{Released, Cleared, Wr
 use Rattle.pw_chip.specs.State.{ChipState}
 use Rattle.pw_chip.specs.Step.{logged, tried, tried_when, reset_at}
 
+-- equal roots pass the test
 pub same_root : (a b : List ℕ) → a ≡ b → bytes_eq a b ≡ true
 same_root a b e = (bytes_eq-Decides a b).1 e
 
+-- other roots fail it
 pub other_root : (a b : List ℕ) → a ≢ b → bytes_eq a b ≡ false
 other_root a b ne = elim (cases_Bool (bytes_eq a b)) [ inl e ↦ absurd (ne ((bytes_eq-Decides a b).0 e)) | inr e ↦ e ]
 
@@ -34,6 +36,7 @@ logged-root w e =
 
 -- ---- claims by the answer
 
+-- a claim of each answer to a try that may come then
 on_tried_when : (P : Reply → Type 0) (r : Readiness) (keys : ChipKeys) (x : Contents) (les : List ℕ) (now : Stamp) (start : ℕ) → readiness x.schedule x.wrong x.last now start ≡ r
     → P (Released (leaf_bytes keys (cleared x)) x.hes)
     → (readiness x.schedule x.wrong x.last now start ≡ delay.Ready → P (Wrong (leaf_bytes keys (bumped now x))))
@@ -58,10 +61,12 @@ on_reset P keys x reset f g = on_cond P (bytes_eq x.reset reset) (Cleared (leaf_
 
 -- ---- records that stay records
 
+-- no wrong try
 pub IsContents-cleared : (x : Contents) → IsContents x → IsContents (cleared x)
 IsContents-cleared x h =
     record { label = h.label; schedule = h.schedule; wrong = omega arith; boot = omega arith; moment = omega arith; fresh = λ _. (refl, refl); les = h.les; hes = h.hes; reset = h.reset; iv = h.iv }
 
+-- a wrong try more, of a leaf that has tries left
 pub IsContents-bumped : (x : Contents) (now : Stamp) → IsContents x → x.wrong < limit_of x.schedule → now.boot < 2 ^ 64 → now.at < 2 ^ 40 → IsContents (bumped now x)
 IsContents-bumped x now h room boot moment =
     record { label = h.label; schedule = h.schedule; wrong = omega arith; boot = boot; moment = moment; fresh = λ e. absurd (omega arith); les = h.les; hes = h.hes; reset = h.reset; iv = h.iv }

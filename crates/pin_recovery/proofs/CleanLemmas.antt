@@ -13,18 +13,22 @@ use Rattle.pin_recovery.specs.LeafCalls.{LeafOp, call_of, stepped, IsLeafOp}
 use Rattle.pin_recovery.specs.Clean.{OnEither, InEither, IsCleanBetween}
 use Rattle.pin_recovery.proofs.AtomicLemmas.{crash_atomic}
 
+-- where neither has a leaf, they are equal
 none_past : (a b : Option Contents) → ((x : Contents) → a ≡ Some x → ⊥) → ((x : Contents) → b ≡ Some x → ⊥) → a ≡ b
 none_past None None f g = refl
 none_past (Some x) b f g = absurd (f x refl)
 none_past None (Some y) f g = absurd (g y refl)
 
 module _ (keys : ChipKeys) (t t' : Leaves) (h : AreLeaves t) (h' : AreLeaves t') (clean : IsCleanBetween keys t t') where
+  -- the leaves before
   covered : Covered (OnEither keys t t') (InEither keys t t') keys t
   covered = record { leaf = h.each; label = h.labels; nodes = λ a on. inl on; macs = λ a is. inl is }
 
+  -- the leaves after
   covered' : Covered (OnEither keys t t') (InEither keys t t') keys t'
   covered' = record { leaf = h'.each; label = h'.labels; nodes = λ a on. inr on; macs = λ a is. inr is }
 
+  -- past the labels there is no leaf
   past : (u : Leaves) → AreLeaves u → (i : ℕ) → (i < 16384 → ⊥) → (x : Contents) → u i ≡ Some x → ⊥
   past u are i ge x q = let good = are.each i x q in let own = are.labels i x q in let lt = good.label in ge (omega arith)
 

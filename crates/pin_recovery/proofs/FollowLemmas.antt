@@ -7,6 +7,7 @@ use Rattle.pin_recovery.specs.Devices.{Devices, tree_of, AreInStep}
 use Rattle.pin_recovery.specs.LeafCalls.{LeafOp, call_of, label_of, reply_to, stepped, IsLeafOp}
 use Rattle.pin_recovery.proofs.AtomicLemmas.{tree_carried}
 
+-- under the keys after the call, which are those before it
 pub follows : (d : Devices) (op : LeafOp) (now : ℕ) → AreInStep d → IsLeafOp op → now < 2 ^ 40
     → values_after (reply_to d op now) (label_of op) (tree_of d) ≡ tree_of (stepped d op now)
 unfolding stepped

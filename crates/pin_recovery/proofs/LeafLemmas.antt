@@ -20,6 +20,7 @@ use Rattle.pin_recovery.proofs.ChipLemmas.{same_root}
 
 -- ---- values
 
+-- other labels keep their values
 agree_leaves : (keys : ChipKeys) (t : Leaves) (label : ℕ) (o : Option Contents) → AgreeBut label (values keys t) (values keys (with_leaf t label o))
 unfolding AgreeBut
 agree_leaves keys t label o = λ j ne. ap (value_of keys) (set_value_other t label o j ne)

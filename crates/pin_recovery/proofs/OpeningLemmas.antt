@@ -25,6 +25,7 @@ use Rattle.pin_recovery.proofs.AtomicLemmas.{crash_atomic}
 
 -- ---- a boot changes nothing that a resync looks at
 
+-- choices by one test are equal where their sides are
 both : {A : Type 0} (b : Bool) (x x' y y' : A) → x ≡ x' → y ≡ y' → cond b x y ≡ cond b x' y'
 both b x x' y y' p q = λ i. cond b (p i) (q i)
 
@@ -33,6 +34,7 @@ both_by : {A B : Type 0} (f : A → B) (b : Bool) (x x' y y' : A) → f x ≡ f 
 both_by f true x x' y y' p q = p
 both_by f false x x' y y' p q = q
 
+-- a boot changes no answer of the chip's Replay
 replay_booted : (w : ChipState) (moment label : ℕ) (aux : List (List (List ℕ))) (leaf : List ℕ) → (replay_step (booted w moment) label aux leaf).0 ≡ (replay_step w label aux leaf).0
 unfolding replay_step
 replay_booted w moment label aux leaf =
@@ -44,10 +46,12 @@ replay_booted w moment label aux leaf =
     (both_by first (is_replayed w.log.newest label) (replay_opened b opens, b) (replay_opened w opens, w) (RootUnknown, b) (RootUnknown, w) inner refl)
     refl
 
+-- nor the record that it gives
 replay_of_booted : (w : ChipState) (moment : ℕ) (v : ℕ → List ℕ) (leaf : Option (List ℕ)) → replay_of (booted w moment) v leaf ≡ replay_of w v leaf
 replay_of_booted w moment v None = refl
 replay_of_booted w moment v (Some leaf) = ap replayed (replay_booted w moment w.log.newest.label (aux_of v w.log.newest.label) leaf)
 
+-- nor what is missing
 missing_booted : (w : ChipState) (moment : ℕ) (v : ℕ → List ℕ) (leaf : Option (List ℕ)) → missing (booted w moment) v leaf ≡ missing w v leaf
 unfolding missing
 missing_booted w moment v leaf =
@@ -56,6 +60,7 @@ missing_booted w moment v leaf =
     (both (eqb w.log.newest.operation RESET_TREE) _ _ _ _ refl
     (both (eqb w.log.newest.operation TRY || eqb w.log.newest.operation RESET) _ _ _ _ (ap (put_if_noted w.log.newest) (replay_of_booted w moment v leaf)) refl)))
 
+-- nor what a resync answers
 pub resync_booted : (w : ChipState) (moment : ℕ) (v : ℕ → List ℕ) (leaf : Option (List ℕ)) → resynced (booted w moment) v leaf ≡ resynced w v leaf
 unfolding resynced
 resync_booted w moment v leaf =
@@ -66,6 +71,7 @@ resync_booted w moment v leaf =
 
 -- ---- an insert is undone alike before and after a boot
 
+-- nor the root that a remove leaves
 removed_root : (w : ChipState) (moment label : ℕ) (aux : List (List (List ℕ))) (mac : List ℕ) (now : ℕ)
     → ((remove_step (booted w moment) label aux mac now).1).log.newest.root ≡ ((remove_step w label aux mac now).1).log.newest.root
 unfolding remove_step
@@ -77,6 +83,7 @@ removed_root w moment label aux mac now =
     refl)
     refl
 
+-- an insert that is undone after a boot leaves devices in step where it does before
 undone_booted : (w : ChipState) (moment : ℕ) (v : ℕ → List ℕ) (label now : ℕ) (t : Leaves) → AreInStep (record { words = undone w v label now; leaves = t })
     → AreInStep (record { words = undone (booted w moment) v label now; leaves = t })
 unfolding step
@@ -92,9 +99,11 @@ undone_booted w moment v label now t h =
       boot = let b = new.boot in omega arith;
     }
 
+-- devices that are in step are so after a boot
 booted_in_step : (d : Devices) (moment : ℕ) → AreInStep d → AreInStep (booted_devices d moment)
 booted_in_step d moment h = record { leaves = h.leaves; root = h.root; boot = omega arith }
 
+-- and so after any answer is carried out
 booted_by : (w : ChipState) (moment : ℕ) (v : ℕ → List ℕ) (answer : Resync) (now : ℕ) (t : Leaves) → AreInStep (record { words = words_by w v answer now; leaves = t })
     → AreInStep (record { words = words_by (booted w moment) v answer now; leaves = t })
 booted_by w moment v resync.InStep now t h = booted_in_step (record { words = w; leaves = t }) moment h
@@ -104,6 +113,7 @@ booted_by w moment v (resync.Removed label) now t h = booted_in_step (record { w
 booted_by w moment v resync.Emptied now t h = booted_in_step (record { words = w; leaves = t }) moment h
 booted_by w moment v (resync.Lost host chip) now t h = booted_in_step (record { words = w; leaves = t }) moment h
 
+-- what recovers does so after a boot
 pub booted_recovers : (d : Devices) (t : Leaves) (moment : ℕ) → Recovers d t → Recovers (booted_devices d moment) t
 booted_recovers d t moment r =
     let v = tree_of d in
@@ -116,15 +126,18 @@ again d t now small r = subst (Recovers (recovered d now)) r.gives (in_step_reco
 
 -- ---- the laws
 
+-- whatever a crash in opening leaves recovers to the same leaves
 pub opening_images : (d : Devices) (t : Leaves) (moment : ℕ) (q : Devices) → Recovers d t → moment < 2 ^ 40 → IsOpeningImage d moment q → Recovers q t
 opening_images d t moment q r small (inl e) = subst (λ z. Recovers z t) (sym e) r
 opening_images d t moment q r small (inr (inl e)) = subst (λ z. Recovers z t) (sym e) (booted_recovers d t moment r)
 opening_images d t moment q r small (inr (inr e)) = subst (λ z. Recovers z t) (sym e) (again (booted_devices d moment) t moment small (booted_recovers d t moment r))
 
+-- what recovers to one of two leaves does so again
 again_either : (old new d : Devices) (now : ℕ) → now < 2 ^ 40 → RecoversEither old new d → RecoversEither old new (recovered d now)
 again_either old new d now small (inl r) = inl (again d old.leaves now small r)
 again_either old new d now small (inr r) = inr (again d new.leaves now small r)
 
+-- whatever a crash in settling leaves recovers to one of the two
 pub settling_images : (d : Devices) (op : LeafOp) (now moment : ℕ) (q : Devices) → AreInStep d → IsLeafOp op → now < 2 ^ 40 → moment < 2 ^ 40
     → IsSettlingImage d (stepped d op now) moment q → RecoversEither d (stepped d op now) q
 settling_images d op now moment q h ok small late (inl e) = inl (subst (λ z. Recovers z d.leaves) (sym e) (in_step_recovers d h))
@@ -136,6 +149,7 @@ settling_images d op now moment q h ok small late (inr (inr (inr e))) =
     let all = crash_atomic d op now h ok small in
     subst (RecoversEither d (stepped d op now)) (sym e) (again_either d (stepped d op now) (between d (stepped d op now)) moment late all.middle)
 
+-- what is settled is in step, with one of the two
 settled_by : (old new d : Devices) (now : ℕ) → now < 2 ^ 40 → RecoversEither old new d → IsSettled old new (recovered d now)
 settled_by old new d now small (inl r) = record { in_step = r.in_step now small; leaves = inl r.gives }
 settled_by old new d now small (inr r) = record { in_step = r.in_step now small; leaves = inr r.gives }

@@ -15,6 +15,7 @@ use Rattle.pin_recovery.proofs.ChipLemmas.{same_root}
 use Rattle.pin_recovery.proofs.LeafLemmas.{opened_own}
 use Rattle.pin_recovery.proofs.BehindLemmas.{remove_done}
 
+-- each call is answered by the leaf at its label
 pub answered : (d : Devices) (op : LeafOp) (now : ℕ) → AreInStep d → IsLeafOp op → IsAnswered d op now
 unfolding call_of step try_step reset_step IsLeafOp IsAnswered
 answered d (InsertLeaf label les hes reset schedule iv) now h ok = λ free.

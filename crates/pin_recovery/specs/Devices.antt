@@ -13,6 +13,7 @@ use Rattle.pw_chip.specs.Law.{values}
 abbrev pub Leaves : Type 0
 Leaves = ℕ → Option Contents
 
+-- a chip, and the records beside it
 pub record Devices : Type 0 where
   pub words : ChipState
   pub leaves : Leaves
@@ -36,6 +37,7 @@ abbrev pub read_by : Result Contents LeafFault → Option Contents
 read_by (Ok x) = Some x
 read_by (Err fault) = None
 
+-- what the bytes of a record hold, if it is one
 abbrev pub held_in : ChipKeys → List ℕ → Option Contents
 held_in keys bytes = read_by (check_at keys bytes)
 

@@ -13,12 +13,14 @@ use Rattle.pw_chip.specs.Ledger.{leaves_after}
 use Rattle.pw_chip.specs.Law.{values}
 use Rattle.pin_recovery.specs.Devices.{Leaves, Devices, record_of}
 
+-- what a host asks at a label
 pub data LeafOp : Type 0 where
   InsertLeaf : (label : ℕ) → (les : List ℕ) → (hes : List ℕ) → (reset : List ℕ) → (schedule : List (ℕ × ℕ)) → (iv : List ℕ) → LeafOp
   TryLeaf : (label : ℕ) → (les : List ℕ) → LeafOp
   ResetLeaf : (label : ℕ) → (reset : List ℕ) → LeafOp
   RemoveLeaf : (label : ℕ) → LeafOp
 
+-- the label
 abbrev pub label_of : LeafOp → ℕ
 label_of (InsertLeaf label les hes reset schedule iv) = label
 label_of (TryLeaf label les) = label
@@ -33,6 +35,7 @@ call_of keys leaves (TryLeaf label les) = Try label (aux_of (values keys leaves)
 call_of keys leaves (ResetLeaf label reset) = Reset label (aux_of (values keys leaves) label) (record_of keys (leaves label)) reset
 call_of keys leaves (RemoveLeaf label) = Remove label (aux_of (values keys leaves) label) (values keys leaves label)
 
+-- the reply that it gets
 abbrev pub reply_to : Devices → LeafOp → ℕ → Reply
 reply_to d op now = (step d.words (call_of d.words.keys d.leaves op) now).0
 

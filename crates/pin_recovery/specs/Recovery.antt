@@ -31,6 +31,7 @@ leaves_by keys (Lost host chip) leaves = leaves
 abbrev pub undone : ChipState → (ℕ → List ℕ) → ℕ → ℕ → ChipState
 undone w values label now = (step w (Remove label (aux_of (with_value values label w.log.newest.mac) label) w.log.newest.mac) now).1
 
+-- the words once the answer is carried out
 abbrev pub words_by : ChipState → (ℕ → List ℕ) → Resync → ℕ → ChipState
 words_by w values (Inserted label) now = undone w values label now
 words_by w values _ now = w

@@ -24,6 +24,7 @@ record IsOpenedTo (s : Platform) (d : Devices) (moment : ℕ) (t : Leaves) : Typ
   in_step : AreInStep (opened s d moment).devices
   leaves : (opened s d moment).devices.leaves ≡ t
 
+-- what recovers is opened to these leaves, however many openings were cut off
 opened_to : (s : Platform) (t : Leaves) (moments : List ℕ) (d : Devices) (moment : ℕ) → Recovers s.devices t → AreCutOpenings s.devices moments d → moment < 2 ^ 40 → IsOpenedTo s d moment t
 opened_to s t moments d moment r c small =
     let b = booted_recovers d t moment (cut_openings s.devices t moments d r c) in
@@ -33,6 +34,7 @@ opened_to s t moments d moment r c small =
 seen : (s : Platform) (d : Devices) (moment : ℕ) (t : Leaves) (a : ℕ) → IsOpenedTo s d moment t → view_of (opened s d moment) a ≡ record { records = s.records a; leaves = owned s.owners t a }
 seen s d moment t a o = let e = o.leaves in λ i. record { records = s.records a; leaves = owned s.owners (e i) a }
 
+-- from this state on, each opening gives the views of one of two states
 abbrev Reopens : Platform → Platform → ℕ → Platform → Type 0
 Reopens old new account q = (moments : List ℕ) (d : Devices) (moment : ℕ) → AreCutOpenings q.devices moments d → moment < 2 ^ 40 → IsReopened old new account (opened q d moment)
 
@@ -42,6 +44,7 @@ reopens_old old new account r moments d moment c small =
     let o = opened_to old old.devices.leaves moments d moment r c small in
     record { in_step = o.in_step; others = λ b ne. seen old d moment old.devices.leaves b o; own = inl (seen old d moment old.devices.leaves account o) }
 
+-- the state after the step does
 reopens_new : (old new : Platform) (account : ℕ) → Recovers new.devices new.devices.leaves → ((b : ℕ) → b ≢ account → view_of new b ≡ view_of old b) → Reopens old new account new
 reopens_new old new account r others moments d moment c small =
     let o = opened_to new new.devices.leaves moments d moment r c small in
@@ -55,6 +58,7 @@ owners_unseen s account (TryLeaf label les) b ok = refl
 owners_unseen s account (ResetLeaf label reset) b ok = refl
 owners_unseen s account (RemoveLeaf label) b ok = refl
 
+-- the state between the two writes does
 reopens_half : (s : Platform) (account : ℕ) (op : LeafOp) (now : ℕ) → AreInStep s.devices → IsLeafOp op → IsAllowedLeaf s account op
     → Recovers (between s.devices (stepped s.devices op now)) s.devices.leaves ⊎ Recovers (between s.devices (stepped s.devices op now)) (stepped s.devices op now).leaves
     → Reopens s (done_by s account (Asks op) now) account (halfway s account op now)
@@ -74,6 +78,7 @@ reopens_half s account op now h ok allowed (inr r) moments d moment c small =
       own = inr (seen q d moment t account o);
     }
 
+-- so each image of a step does
 survives : (s : Platform) (account : ℕ) (op : Op) (now : ℕ) (q : Platform) → AreInStep s.devices → IsAllowedOp s account op now → IsImageOf s account op now q
     → Reopens s (done_by s account op now) account q
 unfolding IsImageOf
@@ -99,6 +104,7 @@ survives s account (Asks op) now q h ok (inr (inr e)) =
     let all = crash_atomic s.devices op now h ok.1 ok.0 in
     subst (Reopens s new account) (sym e) (reopens_new s new account all.last (λ b ne. other_view s account (Asks op) now b h ok ne))
 
+-- and each image of each step of a list
 pub survives_each : (s : Platform) (list : List Step) → AreInStep s.devices → AreAllowed s list → SurvivesEach s list
 unfolding AreAllowed SurvivesEach
 survives_each s [] h ok = h

@@ -35,11 +35,13 @@ use Rattle.platform_model.proofs.ViewLemmas.{view_changed, view_other, view_inse
 
 -- ---- a leaf after a call
 
+-- the leaf after a try under this readiness
 unfoldable pub tried_contents : Readiness → List ℕ → Stamp → Contents → Contents
 tried_contents delay.Ready les now x = cond (bytes_eq x.les les) (cleared x) (bumped now x)
 tried_contents (delay.Delayed until) les now x = x
 tried_contents delay.Locked les now x = x
 
+-- leaves with one set to what it was
 pub with_itself : (t : Leaves) (label : ℕ) (x : Contents) → t label ≡ Some x → t ≡ with_leaf t label (Some x)
 with_itself t label x e =
     let at : (i : ℕ) → t i ≡ with_leaf t label (Some x) i =
@@ -50,24 +52,28 @@ with_itself t label x e =
     λ j i. at i j
 
 module _ (keys : ChipKeys) (t : Leaves) (label : ℕ) (x : Contents) (there : t label ≡ Some x) (aux : List (List (List ℕ))) (leaf : List ℕ) (stamp : Stamp) where
+  -- a try that may come, right or wrong
   tried_right : (les : List ℕ) (b : Bool) → leaves_after stamp (Try label aux leaf les) (cond b (reply.Released (leaf_bytes keys (cleared x)) x.hes) (reply.Wrong (leaf_bytes keys (bumped stamp x)))) t
       ≡ with_leaf t label (Some (cond b (cleared x) (bumped stamp x)))
   unfolding leaves_after
   tried_right les true = ap (λ o. with_leaf t label o) (ap (option_map cleared) there)
   tried_right les false = ap (λ o. with_leaf t label o) (ap (option_map (bumped stamp)) there)
 
+  -- the leaves after a try
   tried_leaves : (les : List ℕ) (r : Readiness) → leaves_after stamp (Try label aux leaf les) (tried_when r keys x les stamp) t ≡ with_leaf t label (Some (tried_contents r les stamp x))
   unfolding leaves_after tried_contents
   tried_leaves les delay.Ready = tried_right les (bytes_eq x.les les)
   tried_leaves les (delay.Delayed until) = with_itself t label x there
   tried_leaves les delay.Locked = with_itself t label x there
 
+  -- the leaves after a reset
   reset_leaves : (reset : List ℕ) (b : Bool) → leaves_after stamp (Reset label aux leaf reset) (cond b (reply.Cleared (leaf_bytes keys (cleared x))) reply.ResetWrong) t
       ≡ with_leaf t label (Some (cond b (cleared x) x))
   unfolding leaves_after
   reset_leaves reset true = ap (λ o. with_leaf t label o) (ap (option_map cleared) there)
   reset_leaves reset false = with_itself t label x there
 
+-- a try of a leaf, in plain
 plain_tried : (r : Readiness) (les : List ℕ) (stamp : Stamp) (x : Contents) → plain (tried_contents r les stamp x) ≡ steps.tried_leaf r les stamp (plain x)
 unfolding tried_contents
 plain_tried delay.Ready les stamp x = plain_cond (bytes_eq x.les les)
@@ -78,16 +84,19 @@ plain_tried delay.Ready les stamp x = plain_cond (bytes_eq x.les les)
 plain_tried (delay.Delayed until) les stamp x = refl
 plain_tried delay.Locked les stamp x = refl
 
+-- a reset of a leaf, in plain
 plain_reset : (b : Bool) (x : Contents) → plain (cond b (cleared x) x) ≡ cond b (plain (cleared x)) (plain x)
 plain_reset true x = refl
 plain_reset false x = refl
 
 -- ---- what each call leaves
 
+-- the boot and the moment of a step
 unfoldable pub stamp_of : Devices → ℕ → Stamp
 stamp_of d now = record { boot = d.words.boot; at = now }
 
 module _ (d : Devices) (label now : ℕ) (h : AreInStep d) (lt : label < 16384) where
+  -- what a try leaves of the devices
   pub try_leaves : (les : List ℕ) (x : Contents) → d.leaves label ≡ Some x
       → (stepped d (TryLeaf label les) now).leaves ≡ with_leaf d.leaves label (Some (tried_contents (readiness x.schedule x.wrong x.last (stamp_of d now) d.words.start) les (stamp_of d now) x))
   unfolding stepped call_of step try_step tried stamp_of
@@ -101,6 +110,7 @@ module _ (d : Devices) (label now : ℕ) (h : AreInStep d) (lt : label < 16384) 
       ∙ ap (λ r. leaves_after stamp call (try_opened d.words label aux les now r).0 d.leaves) opens
       ∙ tried_leaves keys d.leaves label x there aux (record_of keys (d.leaves label)) stamp les (readiness x.schedule x.wrong x.last stamp d.words.start)
 
+  -- what a reset leaves
   pub resets : (reset : List ℕ) (x : Contents) → d.leaves label ≡ Some x
       → (stepped d (ResetLeaf label reset) now).leaves ≡ with_leaf d.leaves label (Some (cond (bytes_eq x.reset reset) (cleared x) x))
   unfolding stepped call_of step reset_step reset_at
@@ -114,6 +124,7 @@ module _ (d : Devices) (label now : ℕ) (h : AreInStep d) (lt : label < 16384) 
       ∙ ap (λ r. leaves_after stamp call (reset_opened d.words label aux reset now r).0 d.leaves) opens
       ∙ reset_leaves keys d.leaves label x there aux (record_of keys (d.leaves label)) stamp reset (bytes_eq x.reset reset)
 
+  -- what an insert leaves
   pub inserts : (les hes reset : List ℕ) (schedule : List (ℕ × ℕ)) (iv : List ℕ) → d.leaves label ≡ None
       → (stepped d (InsertLeaf label les hes reset schedule iv) now).leaves ≡ with_leaf d.leaves label (Some (new_contents label les hes reset schedule iv))
   unfolding stepped call_of step leaves_after
@@ -128,6 +139,7 @@ module _ (d : Devices) (label now : ℕ) (h : AreInStep d) (lt : label < 16384) 
       let ok = insert_step-ok d.words label aux (v label) y now lt (same_root (root_of label (v label) aux) d.words.log.newest.root (root_of_true v label lt ∙ sym h.root)) (same_root (v label) no_hash zero) in
       ap (λ (q : Reply × ChipState). leaves_after stamp call q.0 d.leaves) ok
 
+  -- what a remove leaves
   pub removes : (x : Contents) → d.leaves label ≡ Some x → leaf_mac d.words.keys x ≢ no_hash
       → (stepped d (RemoveLeaf label) now).leaves ≡ with_leaf d.leaves label None
   unfolding stepped call_of step leaves_after
@@ -142,12 +154,14 @@ module _ (d : Devices) (label now : ℕ) (h : AreInStep d) (lt : label < 16384) 
 
 -- ---- what each account sees after a step
 
+-- no call changes the era
 era_kept : (s : Platform) (op : LeafOp) (now : ℕ) → era_of (record s { devices = stepped s.devices op now }) ≡ era_of s
 unfolding stepped
 era_kept s op now =
     let e = era_step s.devices.words (call_of s.devices.words.keys s.devices.leaves op) now in
     λ i. record { boot = e.boot i; start = e.start i }
 
+-- no step does
 pub era_after : (s : Platform) (account : ℕ) (op : Op) (now : ℕ) → era_of (done_by s account op now) ≡ era_of s
 era_after s account Looks now = refl
 era_after s account (Puts name bytes) now = refl
@@ -202,6 +216,7 @@ other_leaves s account (RemoveLeaf label) now b h ok here ne =
     ap (λ t. owned s.owners t b) (removes s.devices label now h ok x.0 x.1.0 x.1.1)
     ∙ view_other s.owners s.devices.leaves label b None (λ e. ne (sym e ∙ here.0))
 
+-- a step's account has what its step makes of its contents
 pub own_view : (s : Platform) (account : ℕ) (op : Op) (now : ℕ) → AreInStep s.devices → IsAllowedOp s account op now
     → view_of (done_by s account op now) account ≡ done (era_of s) op now (view_of s account)
 own_view s account Looks now h ok = refl
@@ -212,6 +227,7 @@ own_view s account (Removes name) now h ok =
 own_view s account (Asks op) now h ok =
     let e = own_leaves s account op now h ok.1 ok.2 in λ i. record { records = s.records account; leaves = e i }
 
+-- each other account has what it had
 pub other_view : (s : Platform) (account : ℕ) (op : Op) (now b : ℕ) → AreInStep s.devices → IsAllowedOp s account op now → b ≢ account
     → view_of (done_by s account op now) b ≡ view_of s b
 other_view s account Looks now b h ok ne = refl
@@ -222,6 +238,7 @@ other_view s account (Removes name) now b h ok ne =
 other_view s account (Asks op) now b h ok ne =
     let e = other_leaves s account op now b h ok.1 ok.2 ne in λ i. record { records = s.records b; leaves = e i }
 
+-- a step leaves the devices in step
 pub in_step_after : (s : Platform) (account : ℕ) (op : Op) (now : ℕ) → AreInStep s.devices → IsAllowedOp s account op now → AreInStep (done_by s account op now).devices
 in_step_after s account Looks now h ok = h
 in_step_after s account (Puts name bytes) now h ok = h
@@ -230,6 +247,7 @@ in_step_after s account (Asks op) now h ok = let all = crash_atomic s.devices op
 
 -- ---- the list
 
+-- what an account has after any step
 view_step : (s : Platform) (step : Step) (a : ℕ) → AreInStep s.devices → IsAllowedOp s step.account step.op step.now
     → view_of (after s step) a ≡ cond (eqb step.account a) (done (era_of s) step.op step.now (view_of s a)) (view_of s a)
 view_step s step a h ok =
@@ -240,6 +258,7 @@ view_step s step a h ok =
       | inr ne ↦ rw (ne_eqb step.account a ne) (other_view s step.account step.op step.now a h ok (λ e. ne (sym e)))
     ]
 
+-- and after a list of them
 pub folded : (s : Platform) (list : List Step) (account : ℕ) → AreInStep s.devices → AreAllowed s list → view_of (run s list) account ≡ fold (era_of s) account (view_of s account) list
 unfolding run fold AreAllowed
 folded s [] account h ok = refl

@@ -9,16 +9,20 @@ use Rattle.pin_recovery.specs.Devices.{Leaves}
 use Rattle.platform_model.specs.Views.{Records, plain, owned}
 use Rattle.platform_model.specs.Steps.{with_records, with_plain}
 
+-- a label with an owner
 abbrev with_owner : (ℕ → ℕ) → ℕ → ℕ → ℕ → ℕ
 with_owner owners label account i = cond (eqb i label) account (owners i)
 
 module _ (owners : ℕ → ℕ) (t : Leaves) (label : ℕ) where
+  -- a label of the account shows its leaf
   owned_own : (a : ℕ) → owners label ≡ a → owned owners t a label ≡ option_map plain (t label)
   owned_own a e = rw (eq-eqb (owners label) a e) refl
 
+  -- another account's label shows none
   owned_none : (a : ℕ) → owners label ≢ a → owned owners t a label ≡ None
   owned_none a ne = rw (ne_eqb (owners label) a ne) refl
 
+  -- nor does a label without a leaf
   owned_empty : (a : ℕ) → t label ≡ None → owned owners t a label ≡ None
   owned_empty a e =
       elim (cases_eq (owners label) a) [
@@ -62,19 +66,23 @@ module _ (owners : ℕ → ℕ) (t : Leaves) (label a : ℕ) (free : t label ≡
       ] in
       λ j i. at i j
 
+  -- its owner sees the leaf that is inserted
   pub view_inserted : (x : Contents) → owned (with_owner owners label a) (with_leaf t label (Some x)) a ≡ with_plain (owned owners t a) label (Some (plain x))
   view_inserted x =
       view_changed (with_owner owners label a) t label a (Some x) (set_value_same owners label a)
       ∙ ap (λ v. with_plain v label (Some (plain x))) (view_unused a)
 
+  -- no other account does
   pub view_inserted_other : (x : Contents) (b : ℕ) → b ≢ a → owned (with_owner owners label a) (with_leaf t label (Some x)) b ≡ owned owners t b
   view_inserted_other x b ne =
       view_other (with_owner owners label a) t label b (Some x) (λ e. ne (sym e ∙ set_value_same owners label a)) ∙ view_unused b
 
 -- ---- records
 
+-- an account's new records
 pub records_own : (records : ℕ → Records) (a : ℕ) (new : Records) → with_records records a new a ≡ new
 records_own records a new = set_value_same records a new
 
+-- the other accounts keep theirs
 pub records_other : (records : ℕ → Records) (a : ℕ) (new : Records) (b : ℕ) → b ≢ a → with_records records a new b ≡ records b
 records_other records a new b ne = set_value_other records a new b ne

@@ -10,6 +10,7 @@ use Rattle.platform_model.specs.Steps.{Op, Looks, Puts, Removes, Asks, Step, own
 abbrev pub halfway : Platform → ℕ → LeafOp → ℕ → Platform
 halfway s account op now = record s { devices = between s.devices (stepped s.devices op now); owners = owners_after op account s.owners }
 
+-- what a crash in such a step leaves: the state before it, after it, or between its writes
 unfoldable pub IsImageOf : Platform → ℕ → Op → ℕ → Platform → Type 0
 IsImageOf s account Looks now q = q ≡ s
 IsImageOf s account (Puts name bytes) now q = (q ≡ s) ⊎ (q ≡ done_by s account (Puts name bytes) now)
@@ -43,6 +44,7 @@ Survives s step =
     (q : Platform) (moments : List ℕ) (d : Devices) (moment : ℕ) → IsStepImage s step q → AreCutOpenings q.devices moments d → moment < 2 ^ 40
     → IsReopened s (after s step) step.account (opened q d moment)
 
+-- so it is for each step of a list
 unfoldable pub SurvivesEach : Platform → List Step → Type 0
 SurvivesEach s [] = AreInStep s.devices
 SurvivesEach s (step ∷ steps) = AreInStep s.devices × (Survives s step × SurvivesEach (after s step) steps)

@@ -18,6 +18,7 @@ pub data Op : Type 0 where
   Removes : (name : List ℕ) → Op
   Asks : (op : LeafOp) → Op
 
+-- one account's step at a moment
 pub record Step : Type 0 where
   pub account : ℕ
   pub op : Op
@@ -36,21 +37,25 @@ owners_after (TryLeaf label les) account owners i = owners i
 owners_after (ResetLeaf label reset) account owners i = owners i
 owners_after (RemoveLeaf label) account owners i = owners i
 
+-- the platform after a step
 abbrev pub done_by : Platform → ℕ → Op → ℕ → Platform
 done_by s account Looks now = s
 done_by s account (Puts name bytes) now = record s { records = with_records s.records account (insert (s.records account) name bytes) }
 done_by s account (Removes name) now = record s { records = with_records s.records account (remove (s.records account) name) }
 done_by s account (Asks op) now = record s { devices = stepped s.devices op now; owners = owners_after op account s.owners }
 
+-- the same of a step as one
 abbrev pub after : Platform → Step → Platform
 after s step = done_by s step.account step.op step.now
 
+-- the platform after a list of steps
 unfoldable pub run : Platform → List Step → Platform
 run s [] = s
 run s (step ∷ steps) = run (after s step) steps
 
 -- ---- an account's contents: no chip, no hash and no other account
 
+-- a leaf that is inserted
 abbrev pub new_leaf : List ℕ → List ℕ → List ℕ → List (ℕ × ℕ) → PlainLeaf
 new_leaf les hes reset schedule = record { les = les; hes = hes; reset = reset; schedule = schedule; wrong = 0; last = no_stamp }
 
@@ -60,21 +65,26 @@ tried_leaf delay.Ready les now x = if bytes_eq x.les les then record x { wrong =
 tried_leaf (delay.Delayed until) les now x = x
 tried_leaf delay.Locked les now x = x
 
+-- a leaf after a try at a moment of the era
 abbrev pub after_try : Era → List ℕ → ℕ → PlainLeaf → PlainLeaf
 after_try era les now x = tried_leaf (readiness x.schedule x.wrong x.last (record { boot = era.boot; at = now }) era.start) les (record { boot = era.boot; at = now }) x
 
+-- a leaf after a reset
 abbrev pub after_reset : List ℕ → PlainLeaf → PlainLeaf
 after_reset reset x = if bytes_eq x.reset reset then record x { wrong = 0; last = no_stamp } else x
 
+-- leaves with one set
 abbrev pub with_plain : (ℕ → Option PlainLeaf) → ℕ → Option PlainLeaf → ℕ → Option PlainLeaf
 with_plain leaves label x i = if i == label then x else leaves i
 
+-- the account's leaves after a call
 abbrev pub leaves_done : Era → LeafOp → ℕ → (ℕ → Option PlainLeaf) → ℕ → Option PlainLeaf
 leaves_done era (InsertLeaf label les hes reset schedule iv) now leaves = with_plain leaves label (Some (new_leaf les hes reset schedule))
 leaves_done era (TryLeaf label les) now leaves = with_plain leaves label (option_map (after_try era les now) (leaves label))
 leaves_done era (ResetLeaf label reset) now leaves = with_plain leaves label (option_map (after_reset reset) (leaves label))
 leaves_done era (RemoveLeaf label) now leaves = with_plain leaves label None
 
+-- the account's contents after its step
 abbrev pub done : Era → Op → ℕ → View → View
 done era Looks now view = view
 done era (Puts name bytes) now view = record view { records = insert view.records name bytes }
@@ -97,15 +107,18 @@ IsAllowedLeaf s account (ResetLeaf label reset) = (s.owners label ≡ account) �
 IsAllowedLeaf s account (RemoveLeaf label) =
     (s.owners label ≡ account) × ((x : Contents) × ((s.devices.leaves label ≡ Some x) × (leaf_mac s.devices.words.keys x ≢ no_hash)))
 
+-- what the platform lets an account do
 abbrev pub IsAllowedOp : Platform → ℕ → Op → ℕ → Type 0
 IsAllowedOp s account Looks now = Unit {0}
 IsAllowedOp s account (Puts name bytes) now = Unit {0}
 IsAllowedOp s account (Removes name) now = Unit {0}
 IsAllowedOp s account (Asks op) now = (now < 2 ^ 40) × IsLeafOp op × IsAllowedLeaf s account op
 
+-- the same of a step as one
 abbrev pub IsAllowed : Platform → Step → Type 0
 IsAllowed s step = IsAllowedOp s step.account step.op step.now
 
+-- each step of a list is allowed where it comes
 unfoldable pub AreAllowed : Platform → List Step → Type 0
 AreAllowed s [] = Unit {0}
 AreAllowed s (step ∷ steps) = IsAllowed s step × AreAllowed (after s step) steps

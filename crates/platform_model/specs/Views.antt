@@ -7,6 +7,7 @@ use Rattle.pw_types.specs.declared.stamp.Stamp.{Stamp}
 use Rattle.pw_leaf.specs.Contents.{Contents}
 use Rattle.pin_recovery.specs.Devices.{Leaves, Devices}
 
+-- records by name
 abbrev pub Records : Type 0
 Records = FinMap (slice_cmp nat_cmp) (List ℕ)
 
@@ -25,6 +26,7 @@ pub record PlainLeaf : Type 0 where
   pub wrong : ℕ
   pub last : Stamp
 
+-- a leaf without what the chip alone knows
 abbrev pub plain : Contents → PlainLeaf
 plain x = record { les = x.les; hes = x.hes; reset = x.reset; schedule = x.schedule; wrong = x.wrong; last = x.last }
 
@@ -37,6 +39,7 @@ pub record View : Type 0 where
 abbrev pub owned : (ℕ → ℕ) → Leaves → ℕ → ℕ → Option PlainLeaf
 owned owners leaves account label = if owners label == account then option_map plain (leaves label) else None
 
+-- what an account has of the platform
 abbrev pub view_of : Platform → ℕ → View
 view_of s account = record { records = s.records account; leaves = owned s.owners s.devices.leaves account }
 
@@ -45,5 +48,6 @@ pub record Era : Type 0 where
   pub boot : ℕ
   pub start : ℕ
 
+-- the era of the devices
 abbrev pub era_of : Platform → Era
 era_of s = record { boot = s.devices.words.boot; start = s.devices.words.start }
