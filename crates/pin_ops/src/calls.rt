@@ -7,10 +7,9 @@ ghost use Rattle.pw_chip.specs.Step.{step};
 ghost use Rattle.label_tree.specs.Values.{value_in};
 ghost use Rattle.pin_ops.specs.Following.{values_after};
 
-use crate::record::mac_in;
 use label_tree::Tree;
 use pw_chip::{Call, Chip, Reply, Words};
-use pw_leaf::{LEAF_BYTES, NewLeafSecrets};
+use pw_leaf::{LEAF_BYTES, NewLeafSecrets, mac_in};
 use pw_path::{Hash, Label};
 use pw_types::Schedule;
 

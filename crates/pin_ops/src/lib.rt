@@ -4,7 +4,6 @@
 mod answer;
 mod calls;
 mod missing;
-mod record;
 
 pub use answer::Resync;
 pub use calls::{insert, remove, reset, try_pin};

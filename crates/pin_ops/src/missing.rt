@@ -8,11 +8,10 @@ ghost use Rattle.pin_ops.specs.Resyncing.{resynced, redo, missing, put_if_noted,
 ghost use Rattle.pin_ops.specs.Following.{values_by, IsFound};
 
 use crate::answer::Resync;
-use crate::record::mac_in;
 use label_tree::{NO_HASH, Tree};
 use log_replay::{apply, entry_label, plan, root_after};
 use pw_chip::{Call, Chip, Reply, Words};
-use pw_leaf::LEAF_BYTES;
+use pw_leaf::{LEAF_BYTES, mac_in};
 use pw_log::{INSERT, LogAnswer, LogEntry, REMOVE, RESET, RESET_TREE, TRY};
 use pw_path::Label;
 

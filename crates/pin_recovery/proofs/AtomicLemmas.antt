@@ -27,7 +27,8 @@ use Rattle.pin_ops.specs.Following.{values_after}
 use Rattle.pin_recovery.specs.Devices.{Leaves, Devices, tree_of, record_of, AreLeaves, AreInStep}
 use Rattle.pin_recovery.specs.LeafCalls.{LeafOp, InsertLeaf, TryLeaf, ResetLeaf, RemoveLeaf, call_of, label_of, stepped, IsLeafOp}
 use Rattle.pin_recovery.specs.Recovery.{Recovers, IsCrashAtomic}
-use Rattle.pin_recovery.proofs.ChipLemmas.{on_tried, on_reset, IsContents-cleared, IsContents-bumped}
+use Rattle.pw_leaf.proofs.ChangeLemmas.{IsContents-cleared, IsContents-bumped}
+use Rattle.pw_chip.proofs.CallLemmas.{on_tried, on_reset}
 use Rattle.pin_recovery.proofs.LeafLemmas.{root_leaf, values_with, leaves_with, new_is_contents, mac_is, opened_own}
 use Rattle.pin_recovery.proofs.BehindLemmas.{in_step_recovers, with_entry, in_step_logged, Changes, leaf_behind, insert_behind, removal, remove_behind}
 

@@ -3,7 +3,7 @@ use Rattle.std.proofs.Common.{◌≡◌, ℕ, ◌<◌, inl, inr, Option, Some, O
 use Rattle.std.proofs.lemmas.Bool.{cases_eq}
 use Rattle.pw_path.specs.Tree.{root, aux_of, AgreeBut}
 use Rattle.pw_path.specs.Path.{root_of}
-use Rattle.pw_path.proofs.TreeLemmas.{root_of_true, root_of_changed, set_value_other, set_value_same}
+use Rattle.pw_path.proofs.TreeLemmas.{root_of_changed, set_value_other, set_value_same}
 use Rattle.pw_types.specs.Schedule.{IsSchedule}
 use Rattle.pw_leaf.specs.declared.keys.ChipKeys.{ChipKeys}
 use Rattle.pw_leaf.specs.Contents.{Contents, IsContents, new_contents}
@@ -13,10 +13,10 @@ use Rattle.pw_leaf.proofs.RecordLemmas.{check_at-leaf_bytes, length-leaf_bytes}
 use Rattle.pw_chip.specs.Step.{opened}
 use Rattle.pw_chip.specs.Ledger.{with_leaf}
 use Rattle.pw_chip.specs.Law.{value_of, values}
-use Rattle.pw_chip.proofs.OpenLemmas.{opened-ok, mac_of-leaf_bytes}
+use Rattle.pw_chip.proofs.OpenLemmas.{mac_of-leaf_bytes}
+use Rattle.pw_chip.proofs.StandingLemmas.{opened-standing}
 use Rattle.label_tree.specs.Values.{with_value}
 use Rattle.pin_recovery.specs.Devices.{Leaves, held_in, read_by, AreLeaves}
-use Rattle.pin_recovery.proofs.ChipLemmas.{same_root}
 
 -- ---- values
 
@@ -73,8 +73,4 @@ held_written keys x h = ap read_by (check_at-leaf_bytes keys x h)
 pub opened_own : (keys : ChipKeys) (t : Leaves) (label : ℕ) (x : Contents) (tree_root : List ℕ) → label < 16384 → AreLeaves t → t label ≡ Some x → tree_root ≡ root (values keys t)
     → opened keys tree_root label (aux_of (values keys t) label) (leaf_bytes keys x) ≡ Ok x
 opened_own keys t label x tree_root lt h there r =
-    let good = h.each label x there in
-    let own : mac_of (leaf_bytes keys x) ≡ values keys t label = mac_is keys x good ∙ ap (value_of keys) (sym there) in
-    opened-ok keys tree_root label (aux_of (values keys t) label) (leaf_bytes keys x) x lt (check_at-leaf_bytes keys x good) (h.labels label x there)
-    (same_root (root_of label (mac_of (leaf_bytes keys x)) (aux_of (values keys t) label)) tree_root
-    (ap (λ m. root_of label m (aux_of (values keys t) label)) own ∙ root_of_true (values keys t) label lt ∙ sym r))
+    opened-standing keys t tree_root label x (record { small = lt; there = there; contents = h.each label x there; own = h.labels label x there; root = r })

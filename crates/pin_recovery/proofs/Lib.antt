@@ -1,4 +1,4 @@
-pub mod ChipLemmas
+pub mod RootLemmas
 pub mod LeafLemmas
 pub mod BehindLemmas
 pub mod AtomicLemmas
@@ -6,3 +6,4 @@ pub mod OpeningLemmas
 pub mod FollowLemmas
 pub mod ReplyLemmas
 pub mod CleanLemmas
+pub mod ToldLemmas

@@ -19,7 +19,7 @@ use Rattle.pin_recovery.specs.Devices.{Leaves, Devices, tree_of, record_at, AreI
 use Rattle.pin_ops.specs.Resyncing.{lost, redone, replayed, replay_of, put_if_noted, missing, resynced}
 use Rattle.pin_recovery.specs.LeafCalls.{LeafOp, stepped, IsLeafOp}
 use Rattle.pin_recovery.specs.Recovery.{resync_of, leaves_by, words_by, undone, recovered, Recovers, between, booted_devices, IsOpeningImage, IsSettlingImage, RecoversEither, IsSettled}
-use Rattle.pin_recovery.proofs.ChipLemmas.{logged-root}
+use Rattle.pw_chip.proofs.StandingLemmas.{logged-root}
 use Rattle.pin_recovery.proofs.BehindLemmas.{recovers_by, in_step_recovers}
 use Rattle.pin_recovery.proofs.AtomicLemmas.{crash_atomic}
 
