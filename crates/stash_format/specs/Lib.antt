@@ -1,0 +1,12 @@
+pub mod Faults
+pub mod Forms
+pub mod Fields
+pub mod Blocks
+pub mod Held
+pub mod Record
+pub mod Resets
+pub mod Payloads
+pub mod Spelling
+pub mod Spelled
+pub mod Kept
+pub mod Live
