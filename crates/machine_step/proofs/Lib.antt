@@ -3,3 +3,4 @@ pub mod RowLaws
 pub mod Saying
 pub mod Tails
 pub mod Choosing
+pub mod Moments

@@ -3,7 +3,11 @@
 
 mod answered;
 mod fits;
+mod history;
+mod laws;
 mod machine;
 mod rows;
 
+pub use history::take_steps;
+pub use laws::{a_fresh_account_has_such_moments, steps_keep_moments};
 pub use machine::step;

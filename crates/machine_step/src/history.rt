@@ -1,0 +1,32 @@
+//! Histories: entries that are steps one after another.
+
+ghost use Rattle.std.specs.Prelude.{IfOk, IsTrue};
+ghost use Rattle.account_machine.specs.Legal.{IsLegal};
+ghost use Rattle.machine_step.specs.Timely.{IsTimely};
+
+use crate::{step, steps_keep_moments};
+use account_machine::{Entry, Era, User};
+use ct_bytes::NoMemory;
+use std::alloc::Global;
+
+/// Takes a step for each entry: true where all are steps, and then the user is the one after them. Where
+/// it says false the user is the one before the first entry that is no step.
+///
+/// The moments of the era and the user are below 2^40.
+pub fn take_steps(
+    alloc: Global,
+    user: &mut User,
+    era: Era,
+    entries: &[Entry],
+) -> Result<bool, NoMemory>
+    requires { IsTimely era user.old }
+    ensures { IfOk result (λ yes. IsTrue yes → IsLegal era user.old entries.now user.new) }
+{
+    for entry in entries {
+        if !step(alloc, user, era, entry)? {
+            return Ok(false);
+        }
+        steps_keep_moments();
+    }
+    Ok(true)
+}
