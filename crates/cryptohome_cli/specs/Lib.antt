@@ -1,5 +1,1 @@
-pub mod Words
-pub mod Served
-pub mod Ending
-pub mod Run
-pub mod Quiet
+pub mod Fresh

@@ -2,34 +2,44 @@
 //! and output.
 #![tactic(auto)]
 
-#[cfg(test)]
-mod mem_desk;
-mod outcome;
 mod real_desk;
-mod run;
-mod serve;
-#[cfg(test)]
-mod tests;
-mod words;
 
+use daemon_run::{Ending, run};
 use real_desk::RealDesk;
+use std::io::ErrorKind;
 use std::process::ExitCode;
 use std::{env, io};
 
-fn main(rt: HostRuntime) -> io::Result<ExitCode> {
-    let alloc = rt.alloc();
-    let mut words = Vec::new(alloc);
-    let mut args = env::args(&rt)?;
+// The words after the program's name. One that isn't UTF-8 is an error of data.
+fn words_of(rt: &HostRuntime) -> io::Result<Vec<String>> {
+    let mut words = Vec::new(rt.alloc());
+    let mut args = env::args(rt)?;
     let _program = args.next();
     for word in args {
         words.push(word)?;
     }
-    let mut desk = RealDesk::new(rt);
-    let outcome = run::run(alloc, &words, &mut desk);
-    if outcome.status == 0 {
-        rt.stdout().write_all(&outcome.said)?;
+    Ok(words)
+}
+
+// Ends with this status, also where the text can't be printed.
+fn end(rt: &HostRuntime, status: u8, said: &[u8]) -> ExitCode {
+    let _printed = if status == 0 {
+        rt.stdout().write_all(said)
     } else {
-        rt.stderr().write_all(&outcome.said)?;
-    }
-    Ok(ExitCode::from(outcome.status))
+        rt.stderr().write_all(said)
+    };
+    ExitCode::from(status)
+}
+
+fn main(rt: HostRuntime) -> ExitCode {
+    let words = match words_of(&rt) {
+        Ok(words) => words,
+        Err(error) if error.kind() == ErrorKind::OutOfMemory => {
+            return end(&rt, Ending::NoMemory.status(), b"no memory\n");
+        }
+        Err(_) => return end(&rt, Ending::BadWords.status(), b"bad words\n"),
+    };
+    let mut desk = RealDesk::new(rt);
+    let outcome = run(rt.alloc(), &words, &mut desk);
+    end(&rt, outcome.status, &outcome.said)
 }

@@ -1,13 +1,14 @@
-//! The desk over the real system. It tells nothing but the moment, and counts bytes and faults.
+//! The desk over the real system. It tells nothing but the moment and that all counts begin at 0.
 
-ghost use Rattle.std.specs.Prelude.{None, ⊤};
+ghost use Rattle.std.specs.Prelude.{◌≡◌, None};
 
 use board_model::{BoardFault, FileBoard};
 use fault_count::{Failed, FaultCount};
 use home_daemon::{Client, Desk, DeskFault};
 use request_loop::{Clock, Sink, Source};
 use std::alloc::Global;
-use std::io::{Read, Write};
+use std::fs::File;
+use std::io::{self, ErrorKind, Read, Write};
 use std::time::SystemTime;
 
 /// The desk of the program: directories of the system, standard input and output, and its clock.
@@ -38,6 +39,14 @@ fn seconds(rt: &HostRuntime) -> u64 {
         Ok(since) => since.as_secs(),
         Err(_) => 0,
     }
+}
+
+// Bytes of the system's source of randomness.
+fn random_bytes(rt: &HostRuntime) -> io::Result<[u8; 32]> {
+    let mut bytes = [0u8; 32];
+    let mut file = File::open(rt, "/dev/urandom")?;
+    file.read_exact(&mut bytes)?;
+    Ok(bytes)
 }
 
 /// Standard input.
@@ -109,16 +118,27 @@ impl Desk for RealDesk {
 
     type Clock = SystemClock;
 
-    ghost moment = { λ d. d.moment };
+    ghost use Rattle.std.specs.List.{AllByRecursion};
+    ghost use Rattle.board_model.specs.RealBoard.{faults_of};
+    ghost use Rattle.cryptohome_cli.specs.Fresh.{IsFresh};
 
-    ghost board = { λ d b. ⊤ };
-
-    ghost clients = { λ d clients. ⊤ };
-
-    ghost faults = { λ d. d.faults };
+    ghost seen = { λ d. record {
+      moment = d.moment;
+      entropy = None;
+      board = λ dir board. faults_of board ≡ 0;
+      clients = AllByRecursion IsFresh;
+      faults = d.faults;
+    } };
 
     fn start_moment(&mut self) -> u64 {
         self.moment
+    }
+
+    fn entropy(&mut self) -> Result<[u8; 32], Failed> {
+        match random_bytes(&self.rt) {
+            Ok(bytes) => Ok(bytes),
+            Err(_) => Err(self.faults.raise()),
+        }
     }
 
     fn open_board(&mut self, alloc: Global, dir: &str) -> Result<Self::Board, DeskFault> {

@@ -1,4 +1,4 @@
-mod Puts
+pub mod Puts
 pub mod Surviving
 mod Found
 mod Turning

@@ -1,5 +1,5 @@
 -- What a client has been answered since the account was in an earlier state.
-use Rattle.std.specs.Prelude.{ℕ, List}
+use Rattle.std.specs.Prelude.{ℕ, List, [], ◌∷◌}
 use Rattle.board_model.specs.Disk.{Disk}
 use Rattle.request_loop.specs.Exchange.{Exchange}
 use Rattle.factor_machine.specs.declared.entry.Entry.{Entry}
@@ -16,4 +16,4 @@ module _ {B : Type 0} where
   pub record Answered (disk : B → Disk) (faults : B → ℕ) (start now : Account B) (exchanges : List Exchange) : Type 0 where
     pub turns : List Entry
     pub continues : Continues disk faults start now turns
-    pub output : IsOutput (name_of start) 0 turns exchanges
+    pub output : IsOutput 0 (record { account = name_of start; entries = turns } ∷ []) exchanges

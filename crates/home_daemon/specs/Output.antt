@@ -1,6 +1,7 @@
--- The output of a client: each line, its turns in the book, and its reply.
-use Rattle.std.specs.Prelude.{◌≡◌, ◌⊎◌, ℕ, List, [], ◌∷◌, map, Option, None, MatchOption, All}
-use Rattle.std.specs.List.{flat_map}
+-- The output of a client: each line, its turns in the books, and its reply.
+use Rattle.std.specs.Prelude.{◌≡◌, ◌⊎◌, ℕ, ◌==◌, Bool, false, List, [], ◌∷◌, map, Option, None, Some, MatchOption, Contains, if◌then◌else◌}
+use Rattle.std.specs.List.{flat_map, filter, AllByRecursion}
+use Rattle.std.specs.Str.{bytes_eq}
 use Rattle.request_loop.specs.Lines.{LineSeen, whole, too_long}
 use Rattle.request_loop.specs.Exchange.{Exchange}
 use Rattle.factor_machine.specs.declared.entry.Request.{Request}
@@ -32,12 +33,12 @@ pub record IsAnswered (caller number : ℕ) (request : Request) (answer : Answer
 abbrev pub NoTurn : Answer → Answer → List Entry → Type 0
 NoTurn given answer turns = (answer ≡ given) × (turns ≡ [])
 
--- What a request makes where one account is served: a turn of it, or none where it asks another
--- account, or where there was no memory.
-abbrev pub RequestMakes : List ℕ → ℕ → ℕ → Request → Answer → List Entry → Type 0
-RequestMakes account caller number request answer turns =
-    ((account_asked request ≡ account) × IsAnswered caller number request answer turns)
-    ⊎ (¬ (account_asked request ≡ account) × NoTurn UnknownAccount answer turns)
+-- What a request makes where these accounts are served: a turn of the one that it asks, or none where it
+-- asks another account, or where there was no memory.
+abbrev pub RequestMakes : List (List ℕ) → ℕ → ℕ → Request → Answer → List Entry → Type 0
+RequestMakes accounts caller number request answer turns =
+    (Contains accounts (account_asked request) × IsAnswered caller number request answer turns)
+    ⊎ (¬ Contains accounts (account_asked request) × NoTurn UnknownAccount answer turns)
     ⊎ NoTurn NoMemory answer turns
 
 -- a line with its number of the clock and its reply, and the turns that it made, in order
@@ -54,22 +55,43 @@ abbrev pub FaultGives : LineTurns → Type 0
 FaultGives line = Replies (fault_text faults.NotBuilt) line ⊎ Replies (answer_text NoMemory) line
 
 -- a line that asks something is replied to by the answer, or that there was no memory
-abbrev pub RequestGives : List ℕ → ℕ → Request → LineTurns → Type 0
-RequestGives account caller request line =
+abbrev pub RequestGives : List (List ℕ) → ℕ → Request → LineTurns → Type 0
+RequestGives accounts caller request line =
     ((answer : Answer)
     × (line.exchange.reply ≡ answer_text answer)
-    × RequestMakes account caller line.exchange.moment request answer line.turns)
+    × RequestMakes accounts caller line.exchange.moment request answer line.turns)
     ⊎ Replies (answer_text NoMemory) line
 
--- what a line gives
-abbrev pub LineGives : List ℕ → ℕ → LineTurns → Type 0
-LineGives account caller line =
+-- what a line gives where these accounts are served
+abbrev pub LineGives : List (List ℕ) → ℕ → LineTurns → Type 0
+LineGives accounts caller line =
     MatchOption (asked_by line.exchange.line) (FaultGives line)
-    (λ request. RequestGives account caller request line)
+    (λ request. RequestGives accounts caller request line)
 
--- These lines, and no others, made these turns of the account, each line its own in order.
-pub record IsOutput (account : List ℕ) (caller : ℕ) (turns : List Entry) (exchanges : List Exchange) : Type 0 where
+-- whether this account is asked
+abbrev pub asks : List ℕ → Option Request → Bool
+asks account None = false
+asks account (Some request) = bytes_eq (account_asked request) account
+
+-- the turns of an account that a line made
+abbrev pub turns_of : List ℕ → LineTurns → List Entry
+turns_of account line = if asks account (asked_by line.exchange.line) then line.turns else []
+
+-- an account, with one caller's own entries in its book
+pub record Owned : Type 0 where
+  pub account : List ℕ
+  pub entries : List Entry
+
+abbrev pub accounts_in : List Owned → List (List ℕ)
+accounts_in owned = map (λ own. own.account) owned
+
+-- These lines, and no others, made these entries of the caller, of each account its own in order.
+pub record IsOutput (caller : ℕ) (owned : List Owned) (exchanges : List Exchange) : Type 0 where
   pub lines : List LineTurns
   pub exchanged : map (λ line. line.exchange) lines ≡ exchanges
-  pub each : All (LineGives account caller) lines
-  pub used : flat_map (λ line. line.turns) lines ≡ turns
+  pub each : AllByRecursion (LineGives (accounts_in owned) caller) lines
+  pub used : AllByRecursion (λ own. flat_map (turns_of own.account) lines ≡ own.entries) owned
+
+-- a caller's own entries, in their order
+abbrev pub own_entries : ℕ → List Entry → List Entry
+own_entries caller entries = filter (λ entry. entry.caller == caller) entries

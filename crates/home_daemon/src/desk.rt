@@ -1,9 +1,11 @@
-//! What a run finds outside: the moment of its start, a board, and clients.
+//! What a run finds outside: the moment of its start, its entropy, a board, and clients.
 
-ghost use Rattle.std.specs.Prelude.{◌≡◌, ℕ, List, ◌∷◌, IfOk, IsErrOf};
+ghost use Rattle.std.specs.Prelude.{◌≡◌, ℕ, List, [], ◌∷◌, IfOk, OnOk, IsErr, IfSome, OnErr, IsErrOf};
 ghost use Rattle.fault_count.specs.Causes.{HasCause};
+ghost use Rattle.home_daemon.specs.Desk.{DeskSeen, KeepsNumbers, KeepsBoard, HandsOut};
 
 use board_model::Board;
+use fault_count::Failed;
 use request_loop::{Clock, Sink, Source};
 use std::alloc::Global;
 
@@ -25,6 +27,8 @@ pub enum DeskFault {
 }
 
 /// What a run finds outside.
+///
+/// Each call keeps all that the desk has but its count of faults and what it hands out with `Ok`.
 pub trait Desk {
     type Board: Board + Send + Drop;
 
@@ -34,35 +38,35 @@ pub trait Desk {
 
     type Clock: Clock + Send + Drop;
 
-    ghost use Rattle.home_daemon.specs.declared.desk.Client.{Client};
+    ghost use Rattle.home_daemon.specs.Desk.{DeskSeen};
 
-    /// The number that it gives for the moment of opening.
-    ghost moment: { Self → ℕ };
-
-    /// The board that it hands out is such a board.
-    ghost board: { Self → Self.Board → Type 0 };
-
-    /// The clients that it hands out, in order, may be these.
-    ghost clients: { Self → List (Client Self.Source Self.Sink Self.Clock) → Type 0 };
-
-    /// How often it has failed. It never falls, and stays at 2^64 - 1 once it is there.
-    ghost faults: { Self → ℕ };
+    /// What it has to hand out, and how often it has failed. The count never falls, and stays at
+    /// 2^64 - 1 once it is there.
+    ghost seen: { Self → DeskSeen Self.Board Self.Source Self.Sink Self.Clock };
 
     /// The number for the moment of opening, in seconds.
     fn start_moment(&mut self) -> u64
-        ensures moment { result ≡ moment self.old }
-        ensures board { (handed : Self.Board) → board self.new handed → board self.old handed }
-        ensures clients { (left : List (Client Self.Source Self.Sink Self.Clock))
-            → clients self.new left → clients self.old left }
-        ensures faults { faults self.new ≡ faults self.old };
+        ensures value { result ≡ (seen self.old).moment }
+        ensures numbers { KeepsNumbers (seen self.old) (seen self.new) }
+        ensures board { KeepsBoard (seen self.old) (seen self.new) }
+        ensures clients { HandsOut (seen self.old) (seen self.new) [] }
+        ensures faults { (seen self.new).faults ≡ (seen self.old).faults };
+
+    /// The run's entropy.
+    fn entropy(&mut self) -> Result<[u8; 32], Failed>
+        ensures value { IfOk result (λ bytes. IfSome (seen self.old).entropy (λ told. bytes ≡ told)) }
+        ensures numbers { KeepsNumbers (seen self.old) (seen self.new) }
+        ensures board { KeepsBoard (seen self.old) (seen self.new) }
+        ensures clients { HandsOut (seen self.old) (seen self.new) [] }
+        ensures cause { HasCause (seen self.old).faults (seen self.new).faults (IsErr result) };
 
     /// The board over this directory.
     fn open_board(&mut self, alloc: Global, dir: &str) -> Result<Self::Board, DeskFault>
-        ensures board { IfOk result (board self.old) }
-        ensures moment { moment self.new ≡ moment self.old }
-        ensures clients { (left : List (Client Self.Source Self.Sink Self.Clock))
-            → clients self.new left → clients self.old left }
-        ensures cause { HasCause (faults self.old) (faults self.new)
+        ensures board { IfOk result ((seen self.old).board dir.now) }
+        ensures board_kept { OnErr result (KeepsBoard (seen self.old) (seen self.new)) }
+        ensures numbers { KeepsNumbers (seen self.old) (seen self.new) }
+        ensures clients { HandsOut (seen self.old) (seen self.new) [] }
+        ensures cause { HasCause (seen self.old).faults (seen self.new).faults
             (IsErrOf result DeskFault.Failed) };
 
     /// The client of this number.
@@ -71,10 +75,10 @@ pub trait Desk {
         alloc: Global,
         number: u32,
     ) -> Result<Client<Self::Source, Self::Sink, Self::Clock>, DeskFault>
-        ensures client { IfOk result (λ opened.
-            (rest : List (Client Self.Source Self.Sink Self.Clock))
-            → clients self.new rest → clients self.old (opened ∷ rest)) }
-        ensures moment { moment self.new ≡ moment self.old }
-        ensures cause { HasCause (faults self.old) (faults self.new)
+        ensures client { IfOk result (λ opened. HandsOut (seen self.old) (seen self.new) (opened ∷ [])) }
+        ensures clients_kept { OnErr result (HandsOut (seen self.old) (seen self.new) []) }
+        ensures numbers { KeepsNumbers (seen self.old) (seen self.new) }
+        ensures board { KeepsBoard (seen self.old) (seen self.new) }
+        ensures cause { HasCause (seen self.old).faults (seen self.new).faults
             (IsErrOf result DeskFault.Failed) };
 }

@@ -7,12 +7,12 @@ mod book;
 mod desk;
 mod home;
 mod line_client;
+mod mem_desk;
 mod stash;
-#[cfg(test)]
-mod tests;
 
 pub use account::{Account, OpenFault};
 pub use book::{Book, Entries};
 pub use desk::{Client, Desk, DeskFault};
 pub use home::HomeState;
 pub use line_client::LineClient;
+pub use mem_desk::MemDesk;

@@ -1,6 +1,6 @@
 //! A client's lines, answered by the account.
 
-ghost use Rattle.std.specs.Prelude.{◌≡◌, false, List, IsTrue};
+ghost use Rattle.std.specs.Prelude.{◌≡◌, false, List, [], ◌∷◌, IsTrue};
 ghost use Rattle.factor_machine.specs.declared.entry.Entry.{Entry as EntrySeen};
 ghost use Rattle.request_lang.specs.Replies.{NamesRecord};
 ghost use Rattle.home_daemon.specs.Account.{Continues, name_of};
@@ -55,7 +55,7 @@ fn answer_request<B: Board + Drop>(
 ) -> Answer
     ensures makes { (turns : List EntrySeen)
         × Continues B.disk B.faults account.old account.new turns
-        × RequestMakes (name_of account.old) 0 moment request result turns }
+        × RequestMakes (name_of account.old ∷ []) 0 moment request result turns }
     ensures names { NamesRecord result }
 {
     if !asks(&request, account.name()) {

@@ -1,4 +1,3 @@
-pub mod Told
 pub mod Cutting
 pub mod Serving
 pub mod Taking

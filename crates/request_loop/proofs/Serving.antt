@@ -7,7 +7,7 @@ use Rattle.fault_count.specs.Told.{Becomes, Gives}
 use Rattle.request_loop.specs.Exchange.{Exchange, text_of, written_for}
 use Rattle.request_loop.specs.Served.{WritesAll, WritesPart, lines_answered}
 use Rattle.request_loop.specs.Cut.{Serves, WritesFor}
-use Rattle.request_loop.proofs.Told.{becomes-then, becomes-same, gives-then, gives-none}
+use Rattle.fault_count.proofs.ToldLemmas.{becomes_then, becomes_same, gives_then, gives_none}
 
 pub written_for-append : (xs ys : List Exchange) → written_for (xs ++ ys) ≡ written_for xs ++ written_for ys
 written_for-append [] ys = refl
@@ -41,8 +41,8 @@ writes-for (Err e) xs ys x y z p q = writes-part xs ys x y z p q
 pub serves-none : {S : Type 0} (was : S → List Exchange → Type 0) (k c : Option (List ℕ)) → Serves was was k k c c WritesAll []
 serves-none was k c = record {
   answered = λ start earlier h. subst (was start) (sym (append-nil earlier)) h;
-  moments = gives-none c;
-  written = becomes-same k (WritesAll []) (λ (old : List ℕ). sym (append-nil old));
+  moments = gives_none c;
+  written = becomes_same (WritesAll []) k (λ (old : List ℕ). sym (append-nil old));
 }
 
 -- a stretch after another that wrote all its replies
@@ -52,8 +52,8 @@ pub serves-then : {A E : Type 0} (r : Result A E) {S : Type 0} {was now : S → 
 serves-then r {now = now} {k = k} {m = m} {c = c} {e = e} xs ys mid l d first next = record {
   answered = λ start earlier h. subst (now start) (append_assoc earlier xs ys) (next.answered start (earlier ++ xs) (first.answered start earlier h));
   moments = subst (λ (numbers : List ℕ). Gives c e numbers) (sym (map-append (λ (x : Exchange). x.moment) xs ys))
-      (gives-then c d e (map (λ (x : Exchange). x.moment) xs) (map (λ (x : Exchange). x.moment) ys) first.moments next.moments);
-  written = becomes-then k l m (WritesAll xs) (WritesFor r ys) (WritesFor r (xs ++ ys)) (writes-for r xs ys) first.written next.written;
+      (gives_then c d e (map (λ (x : Exchange). x.moment) xs) (map (λ (x : Exchange). x.moment) ys) first.moments next.moments);
+  written = becomes_then (WritesAll xs) (WritesFor r ys) (WritesFor r (xs ++ ys)) k l m (writes-for r xs ys) first.written next.written;
 }
 
 -- a reply and its line feed, written in two pieces
@@ -94,8 +94,8 @@ pub writes-feed : {A E : Type 0} (r : Result A E) (k l m : Option (List ℕ)) (e
     → OnErr r (Becomes l m (λ old new. (count : ℕ) × (new ≡ old ++ take count (10 ∷ []))))
     → Becomes k m (WritesFor r (exchange ∷ []))
 writes-feed (Ok a) k l m exchange reply is p ok err =
-    becomes-then k l m (λ old new. new ≡ old ++ reply) (λ old new. new ≡ old ++ 10 ∷ []) (WritesAll (exchange ∷ []))
+    becomes_then (λ old new. new ≡ old ++ reply) (λ old new. new ≡ old ++ 10 ∷ []) (WritesAll (exchange ∷ [])) k l m
     (λ (x y z : List ℕ) (p : y ≡ x ++ reply) (q : z ≡ y ++ 10 ∷ []). writes-whole exchange x y z reply is p q) p ok
 writes-feed (Err e) k l m exchange reply is p ok err =
-    becomes-then k l m (λ old new. new ≡ old ++ reply) (λ old new. (count : ℕ) × (new ≡ old ++ take count (10 ∷ []))) (WritesPart (exchange ∷ []))
+    becomes_then (λ old new. new ≡ old ++ reply) (λ old new. (count : ℕ) × (new ≡ old ++ take count (10 ∷ []))) (WritesPart (exchange ∷ [])) k l m
     (λ (x y z : List ℕ) (p : y ≡ x ++ reply) (q : (count : ℕ) × (z ≡ y ++ take count (10 ∷ []))). writes-back exchange x y z reply is p q) p err

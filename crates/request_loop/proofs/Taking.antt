@@ -6,7 +6,7 @@ use Rattle.request_loop.specs.declared.serve.LoopEnd.TheVariants.{End, SinkFault
 use Rattle.request_loop.specs.Lines.{lines_seen, ended_seen}
 use Rattle.request_loop.specs.Exchange.{Exchange}
 use Rattle.request_loop.specs.Served.{TakesLines, lines_answered}
-use Rattle.request_loop.proofs.Told.{becomes-then, becomes-both, becomes-weaker, becomes-same}
+use Rattle.fault_count.proofs.ToldLemmas.{becomes_then, becomes_both, becomes_weaker, becomes_same}
 use Rattle.request_loop.proofs.Cutting.{lines_seen-more}
 use Rattle.request_loop.proofs.Serving.{lines_answered-append}
 
@@ -14,7 +14,7 @@ use Rattle.request_loop.proofs.Serving.{lines_answered-append}
 pub left-more : (k l m : Option (List ℕ)) (bytes piece : List ℕ) → Becomes k l (λ input rest. input ≡ bytes ++ rest)
     → Becomes l m (λ old new. old ≡ piece ++ new) → Becomes k m (λ input rest. input ≡ (bytes ++ piece) ++ rest)
 left-more k l m bytes piece p q =
-    becomes-then k l m (λ input rest. input ≡ bytes ++ rest) (λ old new. old ≡ piece ++ new) (λ input rest. input ≡ (bytes ++ piece) ++ rest)
+    becomes_then (λ input rest. input ≡ bytes ++ rest) (λ old new. old ≡ piece ++ new) (λ input rest. input ≡ (bytes ++ piece) ++ rest) k l m
     (λ (x y z : List ℕ) (p : x ≡ bytes ++ y) (q : y ≡ piece ++ z). p ∙ (ap (λ rest. bytes ++ rest) q ∙ sym (append_assoc bytes piece z))) p q
 
 -- the end of the input was read
@@ -22,9 +22,9 @@ pub left-end : (k l m : Option (List ℕ)) (bytes buf : List ℕ) (count : ℕ) 
     → Becomes l m (λ old new. old ≡ take count buf ++ new) → Becomes l m (λ old new. (count ≡ 0) ↔ (old ≡ []))
     → Becomes k m (λ input rest. (input ≡ bytes) × (rest ≡ []))
 left-end k l m bytes buf count e p q end =
-    becomes-then k l m (λ input rest. input ≡ bytes ++ rest) (λ old new. (old ≡ []) × (new ≡ [])) (λ input rest. (input ≡ bytes) × (rest ≡ []))
+    becomes_then (λ input rest. input ≡ bytes ++ rest) (λ old new. (old ≡ []) × (new ≡ [])) (λ input rest. (input ≡ bytes) × (rest ≡ [])) k l m
     (λ (x y z : List ℕ) (p : x ≡ bytes ++ y) (q : (y ≡ []) × (z ≡ [])). (p ∙ (ap (λ rest. bytes ++ rest) q.0 ∙ append-nil bytes), q.1)) p
-    (becomes-both l m (λ old new. old ≡ take count buf ++ new) (λ old new. (count ≡ 0) ↔ (old ≡ [])) (λ old new. (old ≡ []) × (new ≡ []))
+    (becomes_both (λ old new. old ≡ take count buf ++ new) (λ old new. (count ≡ 0) ↔ (old ≡ [])) (λ old new. (old ≡ []) × (new ≡ [])) l m
     (λ (y z : List ℕ) (q : y ≡ take count buf ++ z) (end : (count ≡ 0) ↔ (y ≡ [])). (end.0 e, sym (sym (end.0 e) ∙ (q ∙ ap (λ count. take count buf ++ z) e)))) q end)
 
 -- the lines that ended in a piece were answered
@@ -41,7 +41,7 @@ lines-end bytes xs ys p q = lines_answered-append xs ys ∙ (ap (λ lines. lines
 pub takes-end : (k m : Option (List ℕ)) (bytes : List ℕ) (exchanges : List Exchange) → lines_answered exchanges ≡ lines_seen bytes → length bytes < 2 ^ 32
     → Becomes k m (λ input rest. (input ≡ bytes) × (rest ≡ [])) → Becomes k m (TakesLines End exchanges)
 takes-end k m bytes exchanges lines few p =
-    becomes-weaker k m (λ input rest. (input ≡ bytes) × (rest ≡ [])) (TakesLines End exchanges)
+    becomes_weaker (λ input rest. (input ≡ bytes) × (rest ≡ [])) (TakesLines End exchanges) k m
     (λ (input rest : List ℕ) (p : (input ≡ bytes) × (rest ≡ [])).
     (lines ∙ ap lines_seen (sym p.0), p.1, subst (λ (bytes : List ℕ). length bytes < 2 ^ 32) (sym p.0) few)) p
 
@@ -49,7 +49,7 @@ takes-end k m bytes exchanges lines few p =
 pub takes-last : (k m : Option (List ℕ)) (bytes : List ℕ) (exchanges : List Exchange) → lines_answered exchanges ≡ lines_seen bytes
     → Becomes k m (λ input rest. (input ≡ bytes) × (rest ≡ [])) → Becomes k m (TakesLines SinkFault exchanges)
 takes-last k m bytes exchanges lines p =
-    becomes-weaker k m (λ input rest. (input ≡ bytes) × (rest ≡ [])) (TakesLines SinkFault exchanges)
+    becomes_weaker (λ input rest. (input ≡ bytes) × (rest ≡ [])) (TakesLines SinkFault exchanges) k m
     (λ (input rest : List ℕ) (p : (input ≡ bytes) × (rest ≡ [])). (
       input,
       [],
@@ -62,7 +62,7 @@ pub takes-part : (k m : Option (List ℕ)) (bytes piece gone rest : List ℕ) (e
     → lines_answered exchanges ≡ ended_seen (bytes ++ gone)
     → Becomes k m (λ input rest. input ≡ (bytes ++ piece) ++ rest) → Becomes k m (TakesLines SinkFault exchanges)
 takes-part k m bytes piece gone rest exchanges cut lines p =
-    becomes-weaker k m (λ input left. input ≡ (bytes ++ piece) ++ left) (TakesLines SinkFault exchanges)
+    becomes_weaker (λ input left. input ≡ (bytes ++ piece) ++ left) (TakesLines SinkFault exchanges) k m
     (λ (input left : List ℕ) (p : input ≡ (bytes ++ piece) ++ left).
     let more = lines_seen-more (bytes ++ gone) (rest ++ left) in
     let seam : input ≡ (bytes ++ gone) ++ (rest ++ left) = p ∙ (ap (λ piece. (bytes ++ piece) ++ left) cut ∙ regroup left) in
@@ -72,7 +72,7 @@ takes-part k m bytes piece gone rest exchanges cut lines p =
 
 -- the loop found no memory
 pub takes-none : (k : Option (List ℕ)) → Becomes k k (TakesLines NoMemory [])
-takes-none k = becomes-same k (TakesLines NoMemory []) (λ (input : List ℕ). (refl, refl))
+takes-none k = becomes_same (TakesLines NoMemory []) k (λ (input : List ℕ). (refl, refl))
 
 -- so many bytes were taken
 pub length-taken : (bytes buf : List ℕ) (taken count : ℕ) → length bytes ≡ taken → count ≤ length buf → length (bytes ++ take count buf) ≡ taken + count

@@ -11,8 +11,6 @@ mod serve;
 mod service;
 mod sink;
 mod source;
-#[cfg(test)]
-mod tests;
 
 pub use clock::Clock;
 pub use line::Line;

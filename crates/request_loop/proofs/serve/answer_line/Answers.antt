@@ -3,7 +3,7 @@ use Rattle.std.proofs.lemmas.Result.{err_from_is_err_and}
 use Rattle.request_loop.specs.Lines.{line_seen}
 use Rattle.request_loop.specs.Exchange.{Exchange}
 use Rattle.request_loop.specs.Served.{WritesPart}
-use Rattle.request_loop.proofs.Told.{becomes-weaker}
+use Rattle.fault_count.proofs.ToldLemmas.{becomes_weaker}
 use Rattle.request_loop.proofs.Serving.{writes-front, writes-feed}
 use Rattle.request_loop.proofs.serve.answer_line.Goals as goal
 
@@ -18,7 +18,7 @@ returns-in_err-write-clause-served g c =
       record {
         answered = c.answer.ensures.answered;
         moments = c.now-moment.ensures;
-        written = becomes-weaker _ _ (λ old new. (count : ℕ) × (new ≡ old ++ take count c.deref.result.now)) (WritesPart (x ∷ []))
+        written = becomes_weaker (λ old new. (count : ℕ) × (new ≡ old ++ take count c.deref.result.now)) (WritesPart (x ∷ [])) _ _
             (λ (old new : List ℕ) (cut : (count : ℕ) × (new ≡ old ++ take count c.deref.result.now)). writes-front x old new c.deref.result.now c.deref.ensures.value cut)
             c.in_err-write.ensures.err;
       },

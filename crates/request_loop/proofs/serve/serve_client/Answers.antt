@@ -3,7 +3,7 @@ use Rattle.std.proofs.lemmas.Grind.{common_steps}
 use Rattle.request_loop.specs.Lines.{ended_seen}
 use Rattle.request_loop.specs.Exchange.{Exchange}
 use Rattle.request_loop.specs.Served.{lines_answered}
-use Rattle.request_loop.proofs.Told.{becomes-same}
+use Rattle.fault_count.proofs.ToldLemmas.{becomes_same}
 use Rattle.request_loop.proofs.Cutting.{holds-start}
 use Rattle.request_loop.proofs.Serving.{serves-none, serves-then}
 use Rattle.request_loop.proofs.Taking.{left-more, left-end, lines-more, lines-end, takes-end, takes-last, takes-part, takes-none, length-taken}
@@ -26,7 +26,7 @@ loop-taken-init g c = record {
   sink_count = refl;
   bytes = [];
   count = refl;
-  left = becomes-same _ (λ input rest. input ≡ rest) (λ (input : List ℕ). refl);
+  left = becomes_same (λ input rest. input ≡ rest) _ (λ (input : List ℕ). refl);
   exchanges = [];
   lines = refl;
   served = serves-none _ _ _;

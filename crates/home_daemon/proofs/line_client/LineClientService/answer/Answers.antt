@@ -1,4 +1,4 @@
-use Rattle.std.proofs.Common.{ℕ, List, [], ◌++◌, Err, inl, refl, ap, ◌∙◌}
+use Rattle.std.proofs.Common.{ℕ, List, [], ◌∷◌, ◌++◌, Err, inl, refl, ap, ◌∙◌}
 use Rattle.request_loop.specs.Lines.{line_seen}
 use Rattle.request_loop.specs.declared.line.Line.{Line}
 use Rattle.request_lang.specs.declared.line.LineFault.TheVariants.{NotBuilt}
@@ -22,7 +22,7 @@ returns-in-TooLong-clause-answered g c = λ start earlier before.
     let reply = c.fault_text.ensures.text ∙ ap (λ (front : List ℕ). front ++ fault_text NotBuilt) c.requires.empty in
     let asked = ap (λ (line : Line). asked_by (line_seen line)) c.in-TooLong.is in
     answered_push g.B.Board.disk g.B.Board.faults (account_of start) account account earlier line
-    (gives_parse_fault (name_of account) 0 line NotBuilt (λ is. asked) reply refl)
+    (gives_parse_fault (name_of account ∷ []) 0 line NotBuilt (λ is. asked) reply refl)
     (continues_none g.B.Board.disk g.B.Board.faults account
     (unchanged_none (g.B.Board.disk account.board) (g.met.B.Board.only_now account.board))) before
 
@@ -38,7 +38,7 @@ returns-in-Err-clause-answered g c = λ start earlier before.
     let reply = c.fault_text-in-Err.ensures.text ∙ ap (λ (front : List ℕ). front ++ fault_text fault) c.requires.empty in
     let seen = ap (λ (line : Line). asked_by (line_seen line)) c.in-Whole.is in
     answered_push g.B.Board.disk g.B.Board.faults (account_of start) account account earlier line
-    (gives_parse_fault (name_of account) 0 line fault
+    (gives_parse_fault (name_of account ∷ []) 0 line fault
     (λ is. seen ∙ c.parse_line.ensures.not_built (c.in-Err.is ∙ ap Err is)) reply refl)
     (continues_none g.B.Board.disk g.B.Board.faults account
     (unchanged_none (g.B.Board.disk account.board) (g.met.B.Board.only_now account.board))) before
@@ -56,5 +56,5 @@ returns-in-Ok-clause-answered g c = λ start earlier before.
     let reply = c.reply_text.ensures.text ∙ ap (λ (front : List ℕ). front ++ answer_text answer) c.requires.empty in
     let seen = ap (λ (line : Line). asked_by (line_seen line)) c.in-Whole.is in
     answered_push g.B.Board.disk g.B.Board.faults (account_of start) old c.answer_request-answer.new.account earlier line
-    (gives_request (name_of old) 0 line c.in-Ok.request (seen ∙ c.in-Ok.ensures.found) (inl (answer, reply, made.2)))
+    (gives_request (name_of old ∷ []) 0 line c.in-Ok.request (seen ∙ c.in-Ok.ensures.found) (inl (answer, reply, made.2)))
     made.1 before

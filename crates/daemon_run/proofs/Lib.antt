@@ -1,0 +1,4 @@
+mod Short
+mod Opened
+mod Histories
+mod Quieting

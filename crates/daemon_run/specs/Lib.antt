@@ -1,0 +1,8 @@
+pub mod Words
+pub mod Ending
+pub mod Outside
+pub mod Left
+pub mod Served
+pub mod Opening
+pub mod Run
+pub mod Quiet

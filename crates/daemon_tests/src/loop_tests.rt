@@ -1,0 +1,175 @@
+//! The loop over a source, a sink and a clock in memory.
+
+ghost use Rattle.std.specs.Prelude.{◌≤◌};
+
+use fault_count::Failed;
+use request_loop::{
+    Clock, Line, ListClock, LoopEnd, MemSink, MemSource, Service, Sink, Source, serve_client,
+};
+use std::alloc::{AllocError, Global};
+use std::test::Fail;
+
+// Answers by the last digit of the moment, and the first four bytes of the line or `long`.
+#[derive(Drop)]
+struct Echo;
+
+impl Service for Echo {
+    ghost answered = { λ _ _ _. Unit {0} };
+
+    fn answer(&mut self, line: Line<'_>, moment: u64, reply: &mut Vec<u8>) {
+        let text = match line {
+            Line::Whole(bytes) => &bytes[..bytes.len().min(4)],
+            Line::TooLong => b"long".as_slice(),
+        };
+        let _ = reply.push(b'0' + (moment % 10) as u8);
+        let _ = reply.extend_from_slice(text);
+    }
+}
+
+fn numbers(alloc: Global, numbers: &[u64]) -> Result<Vec<u64>, AllocError> {
+    Vec::from_slice(alloc, numbers)
+}
+
+// So many bytes `a`, and then `rest`.
+fn long_line(alloc: Global, count: usize, rest: &[u8]) -> Result<Vec<u8>, AllocError> {
+    let mut line = vec![in alloc; b'a'; count]?;
+    line.extend_from_slice(rest)?;
+    Ok(line)
+}
+
+// Serves the source with a clock that gives 1, 2, 3 and so on.
+fn serve(alloc: Global, source: &mut MemSource, sink: &mut MemSink) -> Result<LoopEnd, AllocError> {
+    let mut clock = ListClock::new(numbers(alloc, &[1, 2, 3, 4, 5])?);
+    Ok(serve_client(alloc, source, sink, &mut clock, &mut Echo))
+}
+
+#[test]
+fn each_line_is_answered_with_its_own_moment(rt: HostRuntime) -> Result<(), Fail> {
+    let alloc = rt.alloc();
+    for (input, want) in [
+        ("", ""),
+        ("\n", "1\n"),
+        ("ab\ncd\n", "1ab\n2cd\n"),
+        ("ab\ncd", "1ab\n2cd\n"),
+        ("ab\n\n\r\nabcdef", "1ab\n2\n3\r\n4abcd\n"),
+    ] {
+        for piece in [1, 3, 5000] {
+            let bytes = Vec::from_slice(alloc, input.as_bytes())?;
+            let mut source = MemSource::new(bytes, piece, numbers(alloc, &[])?);
+            let mut sink = MemSink::new(alloc, 100, numbers(alloc, &[])?)?;
+            let end = serve(alloc, &mut source, &mut sink)?;
+            assert_eq!(rt; end, LoopEnd::End);
+            assert_eq!(rt;
+                sink.written(),
+                want.as_bytes(),
+                "{want} in pieces of {piece}"
+            );
+        }
+    }
+    Ok(())
+}
+
+#[test]
+fn a_line_of_more_than_100000_bytes_is_too_long(rt: HostRuntime) -> Result<(), Fail> {
+    let alloc = rt.alloc();
+    for (count, rest, want) in [
+        (100_000, "", "1aaaa\n"),
+        (100_001, "", "1long\n"),
+        (100_000, "\nb\n", "1aaaa\n2b\n"),
+        (100_001, "\nb\n", "1long\n2b\n"),
+        (250_000, "\nb", "1long\n2b\n"),
+    ] {
+        let bytes = long_line(alloc, count, rest.as_bytes())?;
+        let mut source = MemSource::new(bytes, 4096, numbers(alloc, &[])?);
+        let mut sink = MemSink::new(alloc, 100, numbers(alloc, &[])?)?;
+        let end = serve(alloc, &mut source, &mut sink)?;
+        assert_eq!(rt; end, LoopEnd::End);
+        assert_eq!(rt; sink.written(), want.as_bytes(), "{count} bytes");
+    }
+    Ok(())
+}
+
+#[test]
+fn the_whole_lines_before_a_source_fault_are_answered(rt: HostRuntime) -> Result<(), Fail> {
+    let alloc = rt.alloc();
+    let bytes = Vec::from_slice(alloc, b"ab\ncdef\ngh")?;
+    let mut source = MemSource::new(bytes, 4, numbers(alloc, &[2])?);
+    let mut sink = MemSink::new(alloc, 100, numbers(alloc, &[])?)?;
+    let end = serve(alloc, &mut source, &mut sink)?;
+    assert_eq!(rt; end, LoopEnd::SourceFault);
+    assert_eq!(rt; sink.written(), b"1ab\n".as_slice());
+
+    // A read that works again isn't at the end: what is left is served.
+    let end = serve(alloc, &mut source, &mut sink)?;
+    assert_eq!(rt; end, LoopEnd::End);
+    assert_eq!(rt; sink.written(), b"1ab\n1def\n2gh\n".as_slice());
+    Ok(())
+}
+
+#[test]
+fn a_sink_fault_ends_the_loop_at_its_reply(rt: HostRuntime) -> Result<(), Fail> {
+    let alloc = rt.alloc();
+    for (fails, room, want) in [
+        (1, 100, ""),
+        (2, 100, "1ab"),
+        (3, 100, "1ab\n"),
+        (9, 5, "1ab\n"),
+    ] {
+        let bytes = Vec::from_slice(alloc, b"ab\ncd\nef")?;
+        let mut source = MemSource::new(bytes, 100, numbers(alloc, &[])?);
+        let mut sink = MemSink::new(alloc, room, numbers(alloc, &[fails])?)?;
+        let end = serve(alloc, &mut source, &mut sink)?;
+        assert_eq!(rt; end, LoopEnd::SinkFault);
+        assert_eq!(rt; sink.written(), want.as_bytes(), "write {fails} fails");
+    }
+    Ok(())
+}
+
+#[test]
+fn a_source_in_memory_gives_its_bytes_in_pieces(rt: HostRuntime) -> Result<(), Fail> {
+    let alloc = rt.alloc();
+    let bytes = Vec::from_slice(alloc, b"abcdefg")?;
+    let mut source = MemSource::new(bytes, 3, numbers(alloc, &[2, 5])?);
+    let mut buf = [b'.'; 4];
+    for (want, left) in [
+        (Ok(3), "abc."),
+        (Err(Failed), "abc."),
+        (Ok(3), "def."),
+        (Ok(1), "gef."),
+        (Err(Failed), "gef."),
+        (Ok(0), "gef."),
+    ] {
+        assert_eq!(rt; source.read(&mut buf), want, "{left}");
+        assert_eq!(rt; buf.as_slice(), left.as_bytes());
+    }
+    Ok(())
+}
+
+#[test]
+fn a_sink_in_memory_writes_all_or_nothing(rt: HostRuntime) -> Result<(), Fail> {
+    let alloc = rt.alloc();
+    let mut sink = MemSink::new(alloc, 5, numbers(alloc, &[2])?)?;
+    for (bytes, want, written) in [
+        ("ab", Ok(()), "ab"),
+        ("c", Err(Failed), "ab"),
+        ("cdef", Err(Failed), "ab"),
+        ("cde", Ok(()), "abcde"),
+        ("f", Err(Failed), "abcde"),
+    ] {
+        assert_eq!(rt; sink.write(bytes.as_bytes()), want, "{bytes}");
+        assert_eq!(rt; sink.written(), written.as_bytes());
+    }
+    Ok(())
+}
+
+#[test]
+fn a_clock_in_memory_gives_its_last_number_again(rt: HostRuntime) -> Result<(), Fail> {
+    let alloc = rt.alloc();
+    let mut clock = ListClock::new(numbers(alloc, &[7, 5])?);
+    for want in [7, 5, 5, 5] {
+        assert_eq!(rt; clock.now(), want);
+    }
+    let mut none = ListClock::new(numbers(alloc, &[])?);
+    assert_eq!(rt; none.now(), 0);
+    Ok(())
+}
