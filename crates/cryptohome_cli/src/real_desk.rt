@@ -1,6 +1,6 @@
 //! The desk over the real system. It tells nothing but the moment and that all counts begin at 0.
 
-ghost use Rattle.std.specs.Prelude.{◌≡◌, None};
+ghost use Rattle.std.specs.Prelude.{◌≡◌, ◌≤◌, None, IfOk, length};
 
 use board_model::{BoardFault, FileBoard};
 use fault_count::{Failed, FaultCount};
@@ -8,7 +8,7 @@ use home_daemon::{Client, Desk, DeskFault};
 use request_loop::{Clock, Sink, Source};
 use std::alloc::Global;
 use std::fs::File;
-use std::io::{self, ErrorKind, Read, Write};
+use std::io::{self, ErrorKind, Read, StdinLock, Write};
 use std::time::SystemTime;
 
 /// The desk of the program: directories of the system, standard input and output, and its clock.
@@ -49,12 +49,25 @@ fn random_bytes(rt: &HostRuntime) -> io::Result<[u8; 32]> {
     Ok(bytes)
 }
 
-/// Standard input.
+/// Standard input. Its reader lasts as long as it does.
 #[derive(Drop)]
 pub struct Input {
-    rt: HostRuntime,
+    reader: StdinLock<'static>,
     taken: u64,
     faults: FaultCount,
+}
+
+// Reads once. A read that a signal interrupted is made again.
+fn read_again<R: Read>(reader: &mut R, buf: &mut [u8]) -> io::Result<usize>
+    ensures within { IfOk result (λ count. count ≤ length buf.new) }
+{
+    for _ in 0..u64::MAX {
+        match reader.read(buf) {
+            Err(error) if error.kind() == ErrorKind::Interrupted => {}
+            outcome => return outcome,
+        }
+    }
+    Err(io::Error::from(ErrorKind::Interrupted))
 }
 
 /// Standard output.
@@ -78,7 +91,7 @@ impl Source for Input {
     ghost faults = { λ s. s.faults };
 
     fn read(&mut self, buf: &mut [u8]) -> Result<usize, Failed> {
-        match self.rt.reader().read(buf) {
+        match read_again(&mut self.reader, buf) {
             Ok(count) => {
                 self.taken = self.taken.saturating_add(count as u64);
                 Ok(count)
@@ -159,7 +172,7 @@ impl Desk for RealDesk {
     ) -> Result<Client<Input, Output, SystemClock>, DeskFault> {
         Ok(Client {
             source: Input {
-                rt: self.rt,
+                reader: self.rt.reader(),
                 taken: 0,
                 faults: FaultCount::new(),
             },

@@ -22,12 +22,12 @@ use Rattle.daemon_run.specs.Run.{Serving, ClientsServed, EndsServed, Did}
 use Rattle.daemon_run.specs.Quiet.{StaysBelowLimit, IsQuietClient, IsQuiet}
 
 -- an input that is told and is below the limit doesn't meet it
-told_below : (before after : Option (List ℕ)) (exchanges : List Exchange)
+told_below : (before after : Option (List ℕ)) (earlier exchanges : List Exchange)
     → IsSomeAnd before (λ input. length input < 2 ^ 32)
-    → Becomes before after (TakesLines loop_ends.InputLimit exchanges) → ⊥
-told_below None after exchanges below becomes = below
-told_below (Some input) None exchanges below becomes = becomes
-told_below (Some input) (Some rest) exchanges below becomes =
+    → Becomes before after (TakesLines loop_ends.InputLimit earlier exchanges) → ⊥
+told_below None after earlier exchanges below becomes = below
+told_below (Some input) None earlier exchanges below becomes = becomes
+told_below (Some input) (Some rest) earlier exchanges below becomes =
     let whole : length input ≡ length becomes.0 + length rest = ap length becomes.1 ∙ length-append becomes.0 rest in
     omega (arith, below, whole, becomes.3)
 
@@ -41,7 +41,7 @@ module _ {B S K C : Type 0} (outside : Outside B S K C) where
       → ServesLines outside loop_ends.InputLimit before after exchanges
       → StaysBelowLimit outside before.source after.source → ⊥
   below_limit before after exchanges serves (inl below) =
-      told_below (outside.left before.source) (outside.left after.source) exchanges below serves.lines
+      told_below (outside.left before.source) (outside.left after.source) serves.earlier exchanges below serves.lines
   below_limit before after exchanges serves (inr below) =
       let met = serves.limit refl in
       omega (arith, met, below)

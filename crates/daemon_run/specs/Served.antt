@@ -22,11 +22,12 @@ TakesLimit end before now = end ≡ ends.InputLimit → min (before + 2 ^ 32) (2
 
 module _ {B S K C : Type 0} (outside : Outside B S K C) where
   -- The client's loop ended so over these lines: what it took, what it wrote, what the clock gave, and
-  -- the causes of faults.
+  -- the causes of faults. The earlier lines are those before the last read.
   pub record ServesLines (end : LoopEnd) (before after : Client S K C) (exchanges : List Exchange) : Type 0 where
+    pub earlier : List Exchange
     pub moments : Gives (outside.given before.clock) (outside.given after.clock) (map (λ x. x.moment) exchanges)
-    pub lines : Becomes (outside.left before.source) (outside.left after.source) (TakesLines end exchanges)
-    pub replies : Becomes (outside.written before.sink) (outside.written after.sink) (WritesReplies end exchanges)
+    pub lines : Becomes (outside.left before.source) (outside.left after.source) (TakesLines end earlier exchanges)
+    pub replies : Becomes (outside.written before.sink) (outside.written after.sink) (WritesReplies end earlier exchanges)
     pub limit : TakesLimit end (outside.taken before.source) (outside.taken after.source)
     pub source_cause : HasCause (outside.source_faults before.source) (outside.source_faults after.source) (end ≡ ends.SourceFault)
     pub sink_cause : HasCause (outside.sink_faults before.sink) (outside.sink_faults after.sink) (end ≡ ends.SinkFault)

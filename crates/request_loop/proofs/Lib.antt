@@ -1,5 +1,6 @@
 pub mod Cutting
 pub mod Serving
+mod Queueing
 pub mod Taking
 pub mod Giving
 pub mod Ends

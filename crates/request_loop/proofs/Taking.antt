@@ -38,41 +38,46 @@ pub lines-end : (bytes : List ℕ) (xs ys : List Exchange) → lines_answered xs
 lines-end bytes xs ys p q = lines_answered-append xs ys ∙ (ap (λ lines. lines ++ lines_answered ys) p ∙ sym q)
 
 -- the loop ended at the end of the input
-pub takes-end : (k m : Option (List ℕ)) (bytes : List ℕ) (exchanges : List Exchange) → lines_answered exchanges ≡ lines_seen bytes → length bytes < 2 ^ 32
-    → Becomes k m (λ input rest. (input ≡ bytes) × (rest ≡ [])) → Becomes k m (TakesLines End exchanges)
-takes-end k m bytes exchanges lines few p =
-    becomes_weaker (λ input rest. (input ≡ bytes) × (rest ≡ [])) (TakesLines End exchanges) k m
+pub takes-end : (k m : Option (List ℕ)) (bytes : List ℕ) (earlier exchanges : List Exchange) → lines_answered exchanges ≡ lines_seen bytes → length bytes < 2 ^ 32
+    → Becomes k m (λ input rest. (input ≡ bytes) × (rest ≡ [])) → Becomes k m (TakesLines End earlier exchanges)
+takes-end k m bytes earlier exchanges lines few p =
+    becomes_weaker (λ input rest. (input ≡ bytes) × (rest ≡ [])) (TakesLines End earlier exchanges) k m
     (λ (input rest : List ℕ) (p : (input ≡ bytes) × (rest ≡ [])).
     (lines ∙ ap lines_seen (sym p.0), p.1, subst (λ (bytes : List ℕ). length bytes < 2 ^ 32) (sym p.0) few)) p
 
 -- or at the reply to the last line
-pub takes-last : (k m : Option (List ℕ)) (bytes : List ℕ) (exchanges : List Exchange) → lines_answered exchanges ≡ lines_seen bytes
-    → Becomes k m (λ input rest. (input ≡ bytes) × (rest ≡ [])) → Becomes k m (TakesLines SinkFault exchanges)
-takes-last k m bytes exchanges lines p =
-    becomes_weaker (λ input rest. (input ≡ bytes) × (rest ≡ [])) (TakesLines SinkFault exchanges) k m
+pub takes-last : (k m : Option (List ℕ)) (bytes : List ℕ) (earlier exchanges : List Exchange) → lines_answered earlier ≡ ended_seen bytes
+    → lines_answered exchanges ≡ lines_seen bytes
+    → Becomes k m (λ input rest. (input ≡ bytes) × (rest ≡ [])) → Becomes k m (TakesLines SinkFault earlier exchanges)
+takes-last k m bytes earlier exchanges before lines p =
+    becomes_weaker (λ input rest. (input ≡ bytes) × (rest ≡ [])) (TakesLines SinkFault earlier exchanges) k m
     (λ (input rest : List ℕ) (p : (input ≡ bytes) × (rest ≡ [])). (
-      input,
+      bytes,
       [],
-      sym (append-nil input) ∙ ap (λ rest. input ++ rest) (sym p.1),
+      [],
+      p.0 ∙ (sym (append-nil bytes) ∙ (sym (append-nil (bytes ++ [])) ∙ ap (λ rest. (bytes ++ []) ++ rest) (sym p.1))),
+      before,
+      omega arith,
       ap lines_seen p.0 ∙ (sym lines ∙ sym (append-nil (lines_answered exchanges))),
     )) p
 
--- or at a reply to a line within a piece
-pub takes-part : (k m : Option (List ℕ)) (bytes piece gone rest : List ℕ) (exchanges : List Exchange) → piece ≡ gone ++ rest
+-- or at the replies to lines that ended in a piece
+pub takes-part : (k m : Option (List ℕ)) (bytes piece gone rest : List ℕ) (earlier exchanges : List Exchange) → piece ≡ gone ++ rest
+    → length piece ≤ 4096 → lines_answered earlier ≡ ended_seen bytes
     → lines_answered exchanges ≡ ended_seen (bytes ++ gone)
-    → Becomes k m (λ input rest. input ≡ (bytes ++ piece) ++ rest) → Becomes k m (TakesLines SinkFault exchanges)
-takes-part k m bytes piece gone rest exchanges cut lines p =
-    becomes_weaker (λ input left. input ≡ (bytes ++ piece) ++ left) (TakesLines SinkFault exchanges) k m
+    → Becomes k m (λ input rest. input ≡ (bytes ++ piece) ++ rest) → Becomes k m (TakesLines SinkFault earlier exchanges)
+takes-part k m bytes piece gone rest earlier exchanges cut short before lines p =
+    becomes_weaker (λ input left. input ≡ (bytes ++ piece) ++ left) (TakesLines SinkFault earlier exchanges) k m
     (λ (input left : List ℕ) (p : input ≡ (bytes ++ piece) ++ left).
     let more = lines_seen-more (bytes ++ gone) (rest ++ left) in
     let seam : input ≡ (bytes ++ gone) ++ (rest ++ left) = p ∙ (ap (λ piece. (bytes ++ piece) ++ left) cut ∙ regroup left) in
-    (bytes ++ piece, more.0, p, ap lines_seen seam ∙ (more.1 ∙ ap (λ lines. lines ++ more.0) (sym lines)))) p where
+    (bytes, piece, more.0, p, before, short, ap lines_seen seam ∙ (more.1 ∙ ap (λ lines. lines ++ more.0) (sym lines)))) p where
       regroup : (left : List ℕ) → (bytes ++ (gone ++ rest)) ++ left ≡ (bytes ++ gone) ++ (rest ++ left)
       regroup left = simp append_assoc
 
 -- the loop found no memory
-pub takes-none : (k : Option (List ℕ)) → Becomes k k (TakesLines NoMemory [])
-takes-none k = becomes_same (TakesLines NoMemory []) k (λ (input : List ℕ). (refl, refl))
+pub takes-none : (k : Option (List ℕ)) → Becomes k k (TakesLines NoMemory [] [])
+takes-none k = becomes_same (TakesLines NoMemory [] []) k (λ (input : List ℕ). (refl, refl))
 
 -- so many bytes were taken
 pub length-taken : (bytes buf : List ℕ) (taken count : ℕ) → length bytes ≡ taken → count ≤ length buf → length (bytes ++ take count buf) ≡ taken + count

@@ -2,8 +2,7 @@
 use Rattle.std.specs.Prelude.{◌≡◌, ℕ, ◌<◌, ◌==◌, Bool, true, false, IsTrue, Option, Result, Ok, Err, List, [], ◌∷◌, ◌++◌, length, map, if◌then◌else◌}
 use Rattle.fault_count.specs.Told.{Becomes, Gives}
 use Rattle.request_loop.specs.Lines.{lines_of, lines_ended}
-use Rattle.request_loop.specs.Exchange.{Exchange}
-use Rattle.request_loop.specs.Served.{WritesAll, WritesPart}
+use Rattle.request_loop.specs.Exchange.{Exchange, written_for}
 
 -- no line feed is among these
 abbrev pub has_no_feed : List ℕ → Bool
@@ -27,10 +26,20 @@ pub record HoldsPart (is_long : Bool) (bytes taken : List ℕ) : Type 0 where
   pub place : HasBegun taken line
   pub kept : KeepsLine is_long bytes line
 
--- what a step that writes leaves in the sink
-abbrev pub WritesFor : {A E : Type 0} → Result A E → List Exchange → List ℕ → List ℕ → Type 0
-WritesFor (Ok _) = WritesAll
-WritesFor (Err _) = WritesPart
+-- From old to new these bytes were written, or wait, behind those that waited before.
+pub record Queues (before after text old new : List ℕ) : Type 0 where
+  pub done : List ℕ
+  pub written : new ≡ old ++ done
+  pub all : done ++ after ≡ before ++ text
+
+-- what a step that writes leaves in the sink: after a fault nothing is known of what still waits
+abbrev pub QueuesFor : {A E : Type 0} → Result A E → List ℕ → List ℕ → List ℕ → List ℕ → List ℕ → Type 0
+QueuesFor (Ok _) before after text old new = Queues before after text old new
+QueuesFor (Err _) before after text old new = (rest : List ℕ) × Queues before rest text old new
+
+-- the same of the replies to these
+abbrev pub WritesFor : {A E : Type 0} → Result A E → List ℕ → List ℕ → List Exchange → List ℕ → List ℕ → Type 0
+WritesFor result before after exchanges = QueuesFor result before after (written_for exchanges)
 
 -- these lines were answered in a stretch of the loop
 pub record Serves {S : Type 0} (was now : S → List Exchange → Type 0) (sink_before sink_after clock_before clock_after : Option (List ℕ))

@@ -7,6 +7,7 @@ mod list_clock;
 mod mem_sink;
 mod mem_source;
 mod part;
+mod replies;
 mod serve;
 mod service;
 mod sink;

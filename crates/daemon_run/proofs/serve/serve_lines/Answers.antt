@@ -22,6 +22,7 @@ returns g c =
         answered = subst (λ (last : Account _). Answered disk faults c.args.account last served.0)
             (sym c.into_account.ensures.account) from_account;
         loop = record {
+          earlier = served.1.earlier;
           moments = served.1.moments;
           lines = served.1.lines;
           replies = served.1.written;

@@ -1,38 +1,23 @@
-use Rattle.std.proofs.Common.{◌≡◌, ◌++◌, ◌∷◌, [], List, ℕ, take, refl}
-use Rattle.std.proofs.lemmas.Result.{err_from_is_err_and}
+use Rattle.std.proofs.Common.{refl, ◌++◌, [], ◌∷◌}
+use Rattle.fault_count.proofs.ToldLemmas.{becomes_weaker}
 use Rattle.request_loop.specs.Lines.{line_seen}
 use Rattle.request_loop.specs.Exchange.{Exchange}
-use Rattle.request_loop.specs.Served.{WritesPart}
-use Rattle.fault_count.proofs.ToldLemmas.{becomes_weaker}
-use Rattle.request_loop.proofs.Serving.{writes-front, writes-feed}
+use Rattle.request_loop.specs.Cut.{QueuesFor, WritesFor}
+use Rattle.request_loop.proofs.Serving.{writes-one}
 use Rattle.request_loop.proofs.serve.answer_line.Goals as goal
 
--- the reply was cut short
-pub returns-in_err-write-clause-served : goal.returns-in_err-write-clause-served
-returns-in_err-write-clause-served g c =
-    let p = err_from_is_err_and c.from_residual.result c.from_residual.ensures.1 in
-    let x : Exchange = record { line = line_seen c.args.line; moment = c.now-moment.result; reply = c.answer.new.reply.items } in
-    rw p.1 (
-      x,
-      refl,
-      record {
-        answered = c.answer.ensures.answered;
-        moments = c.now-moment.ensures;
-        written = becomes_weaker (λ old new. (count : ℕ) × (new ≡ old ++ take count c.deref.result.now)) (WritesPart (x ∷ [])) _ _
-            (λ (old new : List ℕ) (cut : (count : ℕ) × (new ≡ old ++ take count c.deref.result.now)). writes-front x old new c.deref.result.now c.deref.ensures.value cut)
-            c.in_err-write.ensures.err;
-      },
-    )
-
--- the reply was written, and its line feed is
+-- the reply was put behind those that wait
 pub returns-clause-served : goal.returns-clause-served
 returns-clause-served g c =
-    let x : Exchange = record { line = line_seen c.args.line; moment = c.now-moment.result; reply = c.answer.new.reply.items } in (
+    let x : Exchange = record { line = line_seen c.args.line; moment = c.now-moment.result; reply = c.answer.new.reply.items } in
+    let before = c.args.replies.now.bytes.items in
+    let after = c.put.new.self.bytes.items in (
       x,
       refl,
       record {
         answered = c.answer.ensures.answered;
         moments = c.now-moment.ensures;
-        written = writes-feed c.write-2.result _ _ _ x c.deref.result.now c.deref.ensures.value c.in_ok-write.ensures.ok c.write-2.ensures.ok c.write-2.ensures.err;
+        written = becomes_weaker (QueuesFor c.put.result before after (x.reply ++ 10 ∷ [])) (WritesFor c.put.result before after (x ∷ [])) _ _
+            (writes-one c.put.result before after x) c.put.ensures.written;
       },
     )

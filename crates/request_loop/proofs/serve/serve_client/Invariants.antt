@@ -1,4 +1,4 @@
-use Rattle.std.proofs.Common.{◌≡◌, ◌≤◌, ◌+◌, ◌-◌, ◌^◌, min, ℕ, List, ◌++◌, length, vec_capacity}
+use Rattle.std.proofs.Common.{◌≡◌, ◌≤◌, ◌+◌, ◌-◌, ◌^◌, min, ℕ, List, [], ◌++◌, length, vec_capacity}
 use Rattle.fault_count.specs.Told.{Becomes}
 use Rattle.request_loop.specs.Lines.{ended_seen}
 use Rattle.request_loop.specs.Exchange.{Exchange}
@@ -6,10 +6,11 @@ use Rattle.request_loop.specs.Served.{WritesAll, lines_answered}
 use Rattle.request_loop.specs.Cut.{HoldsPart, Serves}
 use Rattle.request_loop.proofs.serve.serve_client.Given as goal
 
--- so far the whole lines of what was taken were answered, and all replies were written
+-- so far the whole lines of what was taken were answered, all replies were written, and none waits
 abbrev pub invariant-loop-taken : goal.invariant-loop-taken
 invariant-loop-taken g l = record {
   room : 256 ≤ vec_capacity l.reply;
+  none : l.replies.bytes.items ≡ [];
   within : l.taken ≤ 2 ^ 32;
   counted : min (g.S.Source.taken l.initial.source + l.taken) (2 ^ 64 - 1) ≤ g.S.Source.taken l.source;
   most : g.S.Source.taken l.source ≤ g.S.Source.taken l.initial.source + l.taken;

@@ -1,8 +1,9 @@
 use Rattle.std.proofs.Common.{◌∙◌, [], ◌∷◌}
 use Rattle.std.proofs.lemmas.Result.{err_from_is_err_and}
-use Rattle.request_loop.specs.Exchange.{Exchange}
+use Rattle.request_loop.specs.Exchange.{Exchange, written_for}
+use Rattle.request_loop.specs.Cut.{Queues}
 use Rattle.request_loop.proofs.Cutting.{holds-byte, holds-feed, ended_seen-byte, ended_seen-feed}
-use Rattle.request_loop.proofs.Serving.{serves-none}
+use Rattle.request_loop.proofs.Serving.{queues-none, serves-none}
 use Rattle.request_loop.proofs.serve.take_byte.Goals as goal
 
 -- the line that the line feed ends is the one that was answered, though its reply couldn't be written
@@ -33,7 +34,7 @@ returns-in_ok-answer_line-clause-part g c = λ taken h. holds-feed _ _ _ _ taken
 
 -- another byte ends no line
 pub returns-else-byte-eq10-clause-served : goal.returns-else-byte-eq10-clause-served
-returns-else-byte-eq10-clause-served g c = ([], serves-none _ _ _, λ taken h. ended_seen-byte _ _ taken c.args.byte c.if-byte-eq10.false h)
+returns-else-byte-eq10-clause-served g c = ([], serves-none _ _ _ (λ exchanges. Queues c.args.replies.now.bytes.items c.args.replies.now.bytes.items (written_for exchanges)) (queues-none c.args.replies.now.bytes.items), λ taken h. ended_seen-byte _ _ taken c.args.byte c.if-byte-eq10.false h)
 
 pub returns-else-byte-eq10-clause-part : goal.returns-else-byte-eq10-clause-part
 returns-else-byte-eq10-clause-part g c = λ taken h. holds-byte _ _ _ _ taken c.args.byte c.if-byte-eq10.false c.add.ensures h

@@ -1,7 +1,8 @@
 use Rattle.std.proofs.Common.{◌∙◌, [], ◌∷◌}
-use Rattle.request_loop.specs.Exchange.{Exchange}
+use Rattle.request_loop.specs.Exchange.{Exchange, written_for}
+use Rattle.request_loop.specs.Cut.{Queues}
 use Rattle.request_loop.proofs.Cutting.{lines_seen-none, lines_seen-last}
-use Rattle.request_loop.proofs.Serving.{serves-none}
+use Rattle.request_loop.proofs.Serving.{queues-none, serves-none}
 use Rattle.request_loop.proofs.serve.take_end.Goals as goal
 
 -- the last line is the one that was answered
@@ -17,4 +18,4 @@ returns-in-Some-clause-served g c =
 
 -- no line has begun
 pub returns-in-None-clause-served : goal.returns-in-None-clause-served
-returns-in-None-clause-served g c = ([], serves-none _ _ _, λ taken h. lines_seen-none _ _ taken c.in-None.ensures h)
+returns-in-None-clause-served g c = ([], serves-none _ _ _ (λ exchanges. Queues c.args.replies.now.bytes.items c.args.replies.now.bytes.items (written_for exchanges)) (queues-none c.args.replies.now.bytes.items), λ taken h. lines_seen-none _ _ taken c.in-None.ensures h)

@@ -1,10 +1,10 @@
 use Rattle.std.proofs.Common.{◌+◌, ◌<◌, ◌∙◌, ◌++◌, List, [], ℕ, refl, sym, ap, subst, take, drop, length, append-nil, take-append-drop, take_all, Ok, arith}
 use Rattle.std.proofs.lemmas.Result.{err_from_is_err_and}
 use Rattle.request_loop.specs.Lines.{ended_seen}
-use Rattle.request_loop.specs.Exchange.{Exchange}
-use Rattle.request_loop.specs.Cut.{HoldsPart}
+use Rattle.request_loop.specs.Exchange.{Exchange, written_for}
+use Rattle.request_loop.specs.Cut.{HoldsPart, Queues}
 use Rattle.request_loop.proofs.Cutting.{holds-more, ended_seen-more}
-use Rattle.request_loop.proofs.Serving.{serves-none, serves-then}
+use Rattle.request_loop.proofs.Serving.{queues-none, serves-none, waits-then}
 use Rattle.request_loop.proofs.serve.take_piece.Goals as goal
 
 -- before the first byte nothing ended
@@ -12,7 +12,7 @@ pub loop-byte-init : goal.loop-byte-init
 loop-byte-init g c = record {
   room = c.requires;
   count = refl;
-  served = ([], serves-none _ _ _, λ taken h. ap ended_seen (append-nil taken) ∙ sym (append-nil (ended_seen taken)));
+  served = ([], serves-none _ _ _ (λ exchanges. Queues c.args.replies.now.bytes.items c.args.replies.now.bytes.items (written_for exchanges)) (queues-none c.args.replies.now.bytes.items), λ taken h. ap ended_seen (append-nil taken) ∙ sym (append-nil (ended_seen taken)));
   part = λ taken h. subst (λ (taken : List ℕ). HoldsPart c.args.part.now.is_long c.args.part.now.bytes.items taken) (sym (append-nil taken)) h;
 }
 
@@ -31,7 +31,7 @@ returns-in_err-take_byte-clause-served g c =
       take (i + 1) piece,
       drop (i + 1) piece,
       sym (take-append-drop (i + 1) piece),
-      serves-then c.from_residual.result xs ys _ _ _ before.1 (rw p.1 more.1),
+      waits-then c.from_residual.result xs ys c.args.replies.now.bytes.items c.loop-byte.replies.bytes.items c.take_byte.new.replies.bytes.items _ _ _ before.1 (rw p.1 more.1),
       (λ taken held. ended_seen-more taken piece i xs ys h (before.2 taken held) (more.2 (taken ++ take i piece) (c.loop-byte.invariant.part taken held))),
       rw p.1 tt,
     )
@@ -51,7 +51,7 @@ loop-byte-preserved g c =
       count = c.in_ok-take_byte.ensures.cause.kept (λ e. cc) ∙ c.loop-byte.invariant.count;
       served = (
         xs ++ ys,
-        serves-then {A = ℕ} {E = ℕ} (Ok 0) xs ys _ _ _ before.1 more.1,
+        waits-then {A = ℕ} {E = ℕ} (Ok 0) xs ys c.args.replies.now.bytes.items c.loop-byte.replies.bytes.items c.take_byte.new.replies.bytes.items _ _ _ before.1 more.1,
         (λ taken held. ended_seen-more taken piece i xs ys h (before.2 taken held) (more.2 (taken ++ take i piece) (c.loop-byte.invariant.part taken held))),
       );
       part = λ taken held. holds-more _ _ taken piece i h (c.in_ok-take_byte.ensures.part (taken ++ take i piece) (c.loop-byte.invariant.part taken held));
