@@ -3,7 +3,7 @@ use Rattle.std.proofs.Common.{◌≡◌, ◌⊎◌, inl, inr, ℕ, List, [], ◌
 use Rattle.std.specs.Prelude.{IfSome, IsTrue}
 use Rattle.fault_count.specs.Causes.{Rose}
 use Rattle.fault_count.specs.Told.{Becomes}
-use Rattle.board_model.specs.Disk.{Image, Disk, Goes}
+use Rattle.board_model.specs.Disk.{Image, Disk, Follows, Goes}
 use Rattle.board_model.proofs.Effects.{becomes_weaker, leaves_weaker}
 use Rattle.staged_file.specs.Staged.{KeptOr}
 use Rattle.factor_machine.specs.declared.user.User.{User}
@@ -15,7 +15,7 @@ use Rattle.request_loop.specs.declared.serve.LoopEnd.TheVariants as loop_ends
 use Rattle.home_daemon.specs.declared.account.Account.{Account}
 use Rattle.home_daemon.specs.declared.book.Book.{Book}
 use Rattle.home_daemon.specs.declared.desk.Client.{Client}
-use Rattle.home_daemon.specs.Stash.{Has, HoldsUser, PutsRecord}
+use Rattle.home_daemon.specs.Stash.{Has, HoldsUser, PutsRecord, Lasts}
 use Rattle.home_daemon.specs.Account.{Continues, Opens, Survives, StaysHeld, Explains, storage_faults, name_of, user_of, entries_of}
 use Rattle.home_daemon.specs.Desk.{DeskSeen, HandsOut}
 use Rattle.home_daemon.specs.Output.{IsOutput}
@@ -103,26 +103,35 @@ module _ {B S K C : Type 0} (outside : Outside B S K C) where
           (holds_if (outside.disk board).now opens.made opens.found)))
 
   -- what a crash may leave of the turns since the opening
-  survives_of : (name : List ℕ) (moment : ℕ) (board : B) (account now : Account B) (turns : List Entry)
-      → Opens outside.disk outside.board_faults board name moment account
+  survives_opened : (name : List ℕ) (account now : Account B) (turns : List Entry)
+      → name_of account ≡ name → IsTrue (is_account_name name)
       → Continues outside.disk outside.board_faults account now turns
-      → Survives name turns (outside.disk board) (outside.disk now.board)
-  survives_of name moment board account now turns opens goes =
-      survives_after name turns (outside.disk board) (outside.disk account.board) (outside.disk now.board) opens.unchanged
-      (crash_of opens.name_is opens.plain)
-    where
-      crash_of : name_of account ≡ name → IsTrue (is_account_name name)
-          → Survives name turns (outside.disk account.board) (outside.disk now.board)
-      crash_of is plain =
-          subst (λ (name : List ℕ). Survives name turns (outside.disk account.board) (outside.disk now.board)) is
-          (goes.crash (subst (λ (name : List ℕ). IsTrue (is_account_name name)) (sym is) plain))
+      → Survives name turns (outside.disk account.board) (outside.disk now.board)
+  survives_opened name account now turns is plain goes =
+      subst (λ (name : List ℕ). Survives name turns (outside.disk account.board) (outside.disk now.board)) is
+      (goes.crash (subst (λ (name : List ℕ). IsTrue (is_account_name name)) (sym is) plain))
+
+  -- what opening found lasts
+  lasts_of : (name : List ℕ) → IsTrue (is_account_name name) → (a b c : Disk)
+      → Lasts a b → Follows (KeptOr (PutsRecord name)) b.may_leave c.may_leave
+      → Follows (PutsAmong (name ∷ [])) a.once_synced c.may_leave
+  lasts_of name plain a b c lasts puts = λ image left.
+      let last = puts image left in
+      let first = lasts last.0 last.1 in (
+        first.0,
+        first.1,
+        puts_among name plain first.0 image
+            (subst (λ (middle : Image). KeptOr (PutsRecord name) middle image) first.2 last.2),
+      )
 
   histories_of : (name : List ℕ) (moment : ℕ) (board : B) (account now : Account B) (turns : List Entry)
       → Opens outside.disk outside.board_faults board name moment account
       → Continues outside.disk outside.board_faults account now turns
       → Histories outside moment board now.board (name ∷ []) (record { account = name; entries = turns } ∷ [])
   histories_of name moment board account now turns opens goes =
-      let survives = survives_of name moment board account now turns opens goes in
+      let opened = survives_opened name account now turns opens.name_is opens.plain goes in
+      let survives = survives_after name turns (outside.disk board) (outside.disk account.board) (outside.disk now.board)
+      opens.unchanged opened in
       let cause = subst (λ (before : ℕ). Explains before (outside.board_faults now.board) (storage_faults turns)) opens.quiet goes.cause in
       record {
         accounts_are = refl;
@@ -130,6 +139,8 @@ module _ {B S K C : Type 0} (outside : Outside B S K C) where
         goes = goes_among name opens.plain (outside.disk board) (outside.disk now.board) survives.any_moment.goes;
         any_moment = leaves_weaker (outside.disk board) (outside.disk now.board) (KeptOr (PutsRecord name)) (PutsAmong (name ∷ []))
             (puts_among name opens.plain) survives.any_moment.any_moment;
+        lasts = lasts_of name opens.plain (outside.disk board) (outside.disk account.board) (outside.disk now.board)
+            opens.lasts opened.any_moment.any_moment.here;
         durable = (survives.durable, tt);
         cause = subst (Explains (outside.board_faults board) (outside.board_faults now.board))
             (faults_in_one (record { account = name; entries = turns })) cause;
@@ -167,6 +178,7 @@ module _ {B S K C : Type 0} (outside : Outside B S K C) (dir name : List ℕ)
             ∙ ap (λ (entries : List Entry). record { account = name; entries = entries } ∷ []) opens.empty);
         boards = record { handed = board; now = account.board; handed_is = handed; left_is = stays.board_left };
         unchanged = opens.unchanged;
+        lasts = opens.lasts;
         board_quiet = opens.quiet;
       }
 

@@ -5,7 +5,7 @@ use Rattle.std.specs.FinMap.{get}
 use Rattle.fault_count.specs.Causes.{Rose}
 use Rattle.fault_count.specs.Told.{Becomes}
 use Rattle.board_model.specs.Files.{IsTemporary}
-use Rattle.board_model.specs.Disk.{Image, Goes, Leaves, Unchanged}
+use Rattle.board_model.specs.Disk.{Image, Follows, Goes, Leaves, Unchanged}
 use Rattle.factor_machine.specs.declared.user.User.{User}
 use Rattle.factor_machine.specs.declared.user.Era.{Era}
 use Rattle.factor_machine.specs.Legal.{IsLegal, opened}
@@ -14,7 +14,7 @@ use Rattle.request_loop.specs.Exchange.{Exchange}
 use Rattle.request_loop.specs.declared.serve.LoopEnd.{LoopEnd}
 use Rattle.home_daemon.specs.declared.book.Book.{Book}
 use Rattle.home_daemon.specs.declared.desk.Client.{Client}
-use Rattle.home_daemon.specs.Stash.{Has, EachHas}
+use Rattle.home_daemon.specs.Stash.{Has, EachHas, Lasts}
 use Rattle.home_daemon.specs.Home.{NamesDamage}
 use Rattle.home_daemon.specs.Account.{StaysHeld, HasOk, Explains, storage_faults}
 use Rattle.home_daemon.specs.Desk.{DeskSeen, KeepsBoard, HandsOut}
@@ -76,12 +76,14 @@ module _ {B S K C : Type 0} (outside : Outside B S K C) where
         (λ old new. StaysHeld book.account last book.entries new)
 
   -- The books of all accounts, and the board under them. A crash at any moment leaves each account's
-  -- record as it was or put, and leaves it put once a turn has answered ok.
+  -- record as it was or put, and leaves it put once a turn has answered ok. What opening found lasts: at the
+  -- end a crash leaves what it might have left at the start once the directory was synced, and the puts.
   pub record Histories (moment : ℕ) (before after : B) (accounts : List (List ℕ)) (books : List Book) : Type 0 where
     pub accounts_are : map (λ book. book.account) books ≡ accounts
     pub each : AllByRecursion (History moment before after) books
     pub goes : Goes (outside.disk before) (outside.disk after) (PutsAmong accounts)
     pub any_moment : Leaves (outside.disk before) (outside.disk after) (PutsAmong accounts)
+    pub lasts : Follows (PutsAmong accounts) (outside.disk before).once_synced (outside.disk after).may_leave
     pub durable : AllByRecursion (λ book. HasOk book.entries → EachHas book.account (outside.disk after)) books
     pub cause : Explains (outside.board_faults before) (outside.board_faults after) (faults_in books)
 
@@ -121,6 +123,7 @@ module _ {B S K C : Type 0} (outside : Outside B S K C) (asked : Asked)
     pub books_are : left_over.books ≡ map empty_book asked.accounts
     pub boards : Boards
     pub unchanged : Unchanged (outside.disk boards.handed) (outside.disk boards.now)
+    pub lasts : Lasts (outside.disk boards.handed) (outside.disk boards.now)
     pub board_quiet : outside.board_faults boards.now ≡ outside.board_faults boards.handed
 
   -- All clients were served until their loops ended, and the ending is that of these ends.

@@ -107,13 +107,14 @@ fn the_whole_lines_before_a_source_fault_are_answered(rt: HostRuntime) -> Result
 }
 
 #[test]
-fn a_sink_fault_ends_the_loop_at_its_reply(rt: HostRuntime) -> Result<(), Fail> {
+fn a_sink_fault_ends_the_loop_at_its_write(rt: HostRuntime) -> Result<(), Fail> {
     let alloc = rt.alloc();
+    // the replies to the first read are one write, and that to the last line is another
     for (fails, room, want) in [
         (1, 100, ""),
-        (2, 100, "1ab"),
-        (3, 100, "1ab\n"),
-        (9, 5, "1ab\n"),
+        (2, 100, "1ab\n2cd\n"),
+        (9, 7, ""),
+        (9, 8, "1ab\n2cd\n"),
     ] {
         let bytes = Vec::from_slice(alloc, b"ab\ncd\nef")?;
         let mut source = MemSource::new(bytes, 100, numbers(alloc, &[])?);
@@ -121,6 +122,37 @@ fn a_sink_fault_ends_the_loop_at_its_reply(rt: HostRuntime) -> Result<(), Fail> 
         let end = serve(alloc, &mut source, &mut sink)?;
         assert_eq!(rt; end, LoopEnd::SinkFault);
         assert_eq!(rt; sink.written(), want.as_bytes(), "write {fails} fails");
+    }
+    Ok(())
+}
+
+// Answers by the line itself.
+#[derive(Drop)]
+struct Mirror;
+
+impl Service for Mirror {
+    ghost answered = { λ _ _ _. Unit {0} };
+
+    fn answer(&mut self, line: Line<'_>, _moment: u64, reply: &mut Vec<u8>) {
+        if let Line::Whole(bytes) = line {
+            let _ = reply.extend_from_slice(bytes);
+        }
+    }
+}
+
+#[test]
+fn replies_beyond_the_buffer_are_written_in_their_order(rt: HostRuntime) -> Result<(), Fail> {
+    let alloc = rt.alloc();
+    for count in [30_000, 65_535, 65_536, 99_999] {
+        let mut bytes = long_line(alloc, count, b"\nb\n")?;
+        bytes.extend_from_slice(&bytes.clone()?)?;
+        let want = bytes.clone()?;
+        let mut source = MemSource::new(bytes, 4096, numbers(alloc, &[])?);
+        let mut sink = MemSink::new(alloc, 300_000, numbers(alloc, &[])?)?;
+        let mut clock = ListClock::new(numbers(alloc, &[1])?);
+        let end = serve_client(alloc, &mut source, &mut sink, &mut clock, &mut Mirror);
+        assert_eq!(rt; end, LoopEnd::End);
+        assert!(rt; sink.written() == want.as_slice(), "at {count}");
     }
     Ok(())
 }

@@ -22,6 +22,7 @@ const RECORD: [u8; 14] = [1, 3, b'a', b'n', b'n', 0, 0, 0, 0, 0, 0, 0, 1, 0];
 // What is outside of a run.
 #[derive(Clone, Copy)]
 struct Outside<'a> {
+    words: &'a str,
     record: Option<&'a [u8]>,
     input: &'a [u8],
     piece: usize,
@@ -35,6 +36,7 @@ impl<'a> Outside<'a> {
     // A new board, and nothing that fails.
     fn of(input: &'a [u8]) -> Outside<'a> {
         Outside {
+            words: "serve|d|ann",
             record: None,
             input,
             piece: 4096,
@@ -78,7 +80,7 @@ fn board_of(alloc: Global, outside: &Outside<'_>) -> Result<MemBoard, Fail> {
     Ok(MemBoard::new(alloc, files, [0; 256], fails)?)
 }
 
-// A run by `serve d ann`.
+// A run by these words, over a desk that has the directory `d`.
 fn run_over(alloc: Global, outside: &Outside<'_>) -> Result<Outcome<MemDesk>, Fail> {
     let bytes = Vec::from_slice(alloc, outside.input)?;
     let source_fails = listed(alloc, outside.source_fail)?;
@@ -93,7 +95,7 @@ fn run_over(alloc: Global, outside: &Outside<'_>) -> Result<Outcome<MemDesk>, Fa
     let board = board_of(alloc, outside)?;
     let dir = Text::from_str(alloc, "d")?;
     let mut desk = MemDesk::new(900, [0; 32], dir, board, clients, desk_fails);
-    let words = words_of(alloc, "serve|d|ann")?;
+    let words = words_of(alloc, outside.words)?;
     Ok(run(alloc, &words, &mut desk))
 }
 
@@ -208,6 +210,10 @@ fn a_fault_outside_has_its_status(rt: HostRuntime) -> Result<(), Fail> {
         desk_fail: Some(1),
         ..plain
     };
+    let other_directory = Outside {
+        words: "serve|e|ann",
+        ..plain
+    };
     let no_client = Outside {
         desk_fail: Some(2),
         ..plain
@@ -226,6 +232,7 @@ fn a_fault_outside_has_its_status(rt: HostRuntime) -> Result<(), Fail> {
     for (outside, status, said, replies, made) in [
         (read, 3, "board fault\n", "none", false),
         (no_board, 3, "board fault\n", "none", false),
+        (other_directory, 3, "board fault\n", "none", false),
         (no_client, 6, "client fault 0\n", "none", false),
         (source, 6, "client fault 0\n", OK, true),
         (sink, 6, "client fault 0\n", "", true),
