@@ -1,0 +1,9 @@
+pub mod MapLemmas
+pub mod NameLemmas
+pub mod FrameLemmas
+pub mod BlockLemmas
+pub mod HomeLemmas
+pub mod LeafLemmas
+pub mod AddLemmas
+pub mod ChangeLemmas
+pub mod EditLemmas

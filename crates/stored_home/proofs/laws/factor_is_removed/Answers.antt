@@ -1,0 +1,6 @@
+-- The law is its lemma.
+use Rattle.stored_home.proofs.EditLemmas.{remove_law}
+use Rattle.stored_home.proofs.laws.factor_is_removed.Goals as goal
+
+pub returns : goal.returns
+returns c = remove_law

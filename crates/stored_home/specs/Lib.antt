@@ -1,0 +1,9 @@
+pub mod Matching
+pub mod Bounds
+pub mod Holds
+pub mod Loaded
+pub mod Changes
+pub mod Unnamed
+pub mod Adding
+pub mod EditLaws
+pub mod Clean
