@@ -1,5 +1,8 @@
 //! What the table gives turn after turn.
 
+ghost use Rattle.std.specs.Prelude.{OnOk};
+ghost use Rattle.machine_step.specs.Timely.{IsTimely};
+
 use account_machine::{Answer, Entry, Era, Intent, Kind, Request, Token, Told, Turn, User};
 use ct_bytes::{NoMemory, Text};
 use machine_step::{a_fresh_account_has_such_moments, step, steps_keep_moments};
@@ -133,6 +136,16 @@ const TURNS: [(u64, Ask, Say, bool); 24] = [
     (1_080, Ask::Try("long pass"), Say::Password(1_390), false),
 ];
 
+// Takes a step, after which the account's moments are below 2^40 again.
+fn takes(alloc: Global, user: &mut User, entry: &Entry) -> Result<bool, NoMemory>
+    requires { IsTimely (record { boot = 1; start = 0 }) user.old }
+    ensures { OnOk result (IsTimely (record { boot = 1; start = 0 }) user.new) }
+{
+    let took = step(alloc, user, ERA, entry)?;
+    steps_keep_moments();
+    Ok(took)
+}
+
 #[test]
 fn a_pin_waits_by_its_schedule_until_it_is_cleared(rt: HostRuntime) -> Outcome {
     let alloc = rt.alloc();
@@ -140,8 +153,7 @@ fn a_pin_waits_by_its_schedule_until_it_is_cleared(rt: HostRuntime) -> Outcome {
     let mut user = User::fresh(alloc, 1_000);
     for (moment, ask, say, allowed) in TURNS {
         let entry = entry_of(alloc, moment, ask, say)?;
-        let took = step(alloc, &mut user, ERA, &entry)?;
-        steps_keep_moments();
+        let took = takes(alloc, &mut user, &entry)?;
         assert_eq!(rt; took, allowed, "at {moment}");
     }
     Ok(())
