@@ -166,7 +166,7 @@ resets_size (row ∷ rows) are sizes =
     let eight : length edition ≡ 8 = refl in
     let rest = resets_size rows are.1 sizes.1 in
     let whole : length (flat_map reset_bytes (row ∷ rows)) ≡ length (reset_bytes row) + length (flat_map reset_bytes rows) =
-      ap length (flat_map-cons reset_bytes row rows) ∙ length-append (reset_bytes row) (flat_map reset_bytes rows) in
+    ap length (flat_map-cons reset_bytes row rows) ∙ length-append (reset_bytes row) (flat_map reset_bytes rows) in
     let outer : length (reset_bytes row) ≡ length (field8 row.0) + length (edition ++ row.1.secret) = length-append (field8 row.0) (edition ++ row.1.secret) in
     let inner = length-append edition row.1.secret in
     let named : length (field8 row.0) ≡ suc (length row.0) = refl in
@@ -180,7 +180,7 @@ unfolding payload_bytes
 payload_size vault resets size is sizes =
     let rows : List (List ℕ × Reset) = entries resets in
     let are = resets_size rows (recursion_from_All (λ (row : List ℕ × Reset). IsTrue (is_factor_label row.0)) rows is.labels)
-      (recursion_from_All (λ (row : List ℕ × Reset). HasResetSizes row.1) rows sizes) in
+    (recursion_from_All (λ (row : List ℕ × Reset). HasResetSizes row.1) rows sizes) in
     let whole = length-append vault (length rows ∷ flat_map reset_bytes rows) in
     let few = is.few in
     omega (arith, whole, are, few, size)
