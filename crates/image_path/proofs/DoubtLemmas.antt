@@ -1,13 +1,13 @@
 -- What stands goes on by a step, where settling may undo one that failed.
 use Rattle.std.proofs.Common.{◌≡◌, inl, inr, ⊎_elim, ℕ, ◌+◌, ◌≤◌, List, [], ◌∷◌, ◌++◌, take, length, refl, sym, ap, ◌∙◌, subst, arith}
-use Rattle.std.proofs.lemmas.List.{take-append-le, length-append}
-use Rattle.std.proofs.Math.Seq.{take-append_seam, take-length}
+use Rattle.std.proofs.lemmas.List.{take-append-le}
 use Rattle.board_model.specs.Disk.{Image, Disk, Leaves, Follows}
 use Rattle.board_model.proofs.Effects.{leaves_weaker, follows_weaker, leaves_on, follows_then}
 use Rattle.image_path.specs.Showing.{ByAccount, AreSame, Makes, MakesOrNot, Shown, StepGoes, IsLawful}
 use Rattle.image_path.specs.Paths.{shown_since, IsPart, IsPath, ArePaths, Stands, StandsSince}
 use Rattle.image_path.specs.Doubt.{IsOneOf, InStepFrom, AfterStepFrom, StepGoesFrom, StandsFrom}
 use Rattle.image_path.specs.Doubt.{InSettling, Settled}
+use Rattle.image_path.proofs.ChainLemmas.{first_steps, one_longer, all_steps}
 use Rattle.image_path.proofs.PathLemmas.{path-grows, path-step, path-end}
 
 module _ {C S : Type 0} (account_of : S → ℕ) (does : C → S → C → Type 0)
@@ -89,18 +89,6 @@ module _ {C S : Type 0} (account_of : S → ℕ) (does : C → S → C → Type 
         );
   }
 
-  -- of the longer chain the first steps are the chain
-  take-chain : take (length chain) (chain ++ s ∷ []) ≡ chain
-  take-chain = take-append_seam chain (s ∷ [])
-
-  -- it is longer by one
-  size : length (chain ++ s ∷ []) ≡ length chain + 1
-  size = length-append chain (s ∷ [])
-
-  -- and all its steps are the longer chain
-  take-more : take (length chain + 1) (chain ++ s ∷ []) ≡ chain ++ s ∷ []
-  take-more = ap (λ (k : ℕ). take k (chain ++ s ∷ [])) (sym size) ∙ take-length (chain ++ s ∷ [])
-
   -- the parts of an image, and the number of steps that lead to them
   abbrev Left : ℕ → Image → Type 0
   Left ended i = (parts : ByAccount C) × shows i parts
@@ -117,16 +105,16 @@ module _ {C S : Type 0} (account_of : S → ℕ) (does : C → S → C → Type 
     is,
     length chain,
     fits,
-    omega (arith, size),
-    subst (λ l. Led new l to) (sym take-chain) (same-led chain from to same paths),
+    omega (arith, one_longer chain s),
+    subst (λ l. Led new l to) (sym (first_steps chain s)) (same-led chain from to same paths),
   )
   in-flight ended i fits left from to is paths (inr makes) = (
     to,
     is,
     length chain + 1,
     omega (arith, fits),
-    omega (arith, size),
-    subst (λ l. Led new l to) (sym take-more) (led-next from to paths makes (shown-part i to left is)),
+    omega (arith, one_longer chain s),
+    subst (λ l. Led new l to) (sym (all_steps chain s)) (led-next from to paths makes (shown-part i to left is)),
   )
 
   -- each image since a tick shows what the first steps lead to
@@ -143,7 +131,7 @@ module _ {C S : Type 0} (account_of : S → ℕ) (does : C → S → C → Type 
           h.1,
           h.2,
           h.3,
-          omega (arith, size, h.4),
+          omega (arith, one_longer chain s, h.4),
           subst (λ l. Led new l h.0) (sym (take-append-le h.2 chain (s ∷ []) h.4))
               (led-same (take h.2 chain) h.0 h.0 (λ account. refl) h.5),
         ))

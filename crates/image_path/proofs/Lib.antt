@@ -1,4 +1,5 @@
 pub mod PathLemmas
+pub mod ChainLemmas
 pub mod StandLemmas
 pub mod RecoveryLemmas
 pub mod DoubtLemmas

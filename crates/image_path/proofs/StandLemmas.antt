@@ -1,10 +1,11 @@
 -- What stands goes on by a step.
 use Rattle.std.proofs.Common.{◌≡◌, inl, inr, ⊎_elim, ℕ, ◌+◌, ◌≤◌, List, [], ◌∷◌, ◌++◌, take, length, refl, sym, ap, ◌∙◌, subst, arith}
-use Rattle.std.proofs.lemmas.List.{take-append-le, length-append}
-use Rattle.std.proofs.Math.Seq.{take-append_seam, take-length}
+use Rattle.std.proofs.lemmas.List.{take-append-le}
+use Rattle.std.proofs.Math.Seq.{take-length}
 use Rattle.board_model.specs.Disk.{Image, Disk, Leaves}
 use Rattle.image_path.specs.Showing.{ByAccount, AreSame, Makes, MakesOrNot, Shown, StepGoes, IsLawful}
 use Rattle.image_path.specs.Paths.{shown_since, IsPart, IsPath, ArePaths, Stands, StandsSince}
+use Rattle.image_path.proofs.ChainLemmas.{first_steps, one_longer, all_steps}
 use Rattle.image_path.proofs.PathLemmas.{path-grows, path-step}
 
 -- two laws of a board are those of its disk
@@ -104,18 +105,6 @@ module _ {C S : Type 0} (account_of : S → ℕ) (does : C → S → C → Type 
           (to.0, to.1, further i h.0 to.0 (more.counts since i later left) to.1 h.2 to.2);
     }
 
-    -- of the longer chain the first steps are the chain
-    take-chain : take (length chain) (chain ++ s ∷ []) ≡ chain
-    take-chain = take-append_seam chain (s ∷ [])
-
-    -- it is longer by one
-    size : length (chain ++ s ∷ []) ≡ length chain + 1
-    size = length-append chain (s ∷ [])
-
-    -- and all its steps are the longer chain
-    take-more : take (length chain + 1) (chain ++ s ∷ []) ≡ chain ++ s ∷ []
-    take-more = ap (λ (k : ℕ). take k (chain ++ s ∷ [])) (sym size) ∙ take-length (chain ++ s ∷ [])
-
     -- the parts of an image, and the number of steps that lead to them
     abbrev Left : ℕ → Disk → List S → Image → Type 0
     Left ended disk l i = (parts : ByAccount C) × shows i parts
@@ -133,8 +122,8 @@ module _ {C S : Type 0} (account_of : S → ℕ) (does : C → S → C → Type 
       is,
       length chain,
       fits,
-      omega (arith, size),
-      subst (λ l. ArePaths account_of does (Seen new) l first to) (sym take-chain)
+      omega (arith, one_longer chain s),
+      subst (λ l. ArePaths account_of does (Seen new) l first to) (sym (first_steps chain s))
           (same-paths chain from to same paths),
     )
     in-flight ended i fits left from to is paths (inr makes) = (
@@ -142,8 +131,8 @@ module _ {C S : Type 0} (account_of : S → ℕ) (does : C → S → C → Type 
       is,
       length chain + 1,
       omega (arith, fits),
-      omega (arith, size),
-      subst (λ l. ArePaths account_of does (Seen new) l first to) (sym take-more)
+      omega (arith, one_longer chain s),
+      subst (λ l. ArePaths account_of does (Seen new) l first to) (sym (all_steps chain s))
           (further i from to left is paths makes),
     )
 
@@ -160,7 +149,7 @@ module _ {C S : Type 0} (account_of : S → ℕ) (does : C → S → C → Type 
             h.1,
             h.2,
             h.3,
-            omega (arith, size, h.4),
+            omega (arith, one_longer chain s, h.4),
             subst (λ l. ArePaths account_of does (Seen new) l first h.0)
                 (sym (take-append-le h.2 chain (s ∷ []) h.4))
                 (same-paths (take h.2 chain) h.0 h.0 (λ account. refl) h.5),

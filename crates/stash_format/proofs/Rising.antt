@@ -15,7 +15,8 @@ use Rattle.name_map.proofs.Maps.{IsRows-entries, empty-rows, entries-rows}
 abbrev pub order : List ℕ → List ℕ → Ordering
 order = slice_cmp nat_cmp
 
-is_less : (o : Ordering) → is_lt o ≡ true → o ≡ Less
+-- what tests as less is less
+pub is_less : (o : Ordering) → is_lt o ≡ true → o ≡ Less
 is_less Less e = refl
 is_less Equal e = absurd cc
 is_less Greater e = absurd cc

@@ -2,7 +2,7 @@
 use Rattle.std.proofs.Common.{◌≡◌, ℕ, zero, suc, ◌+◌, ◌<◌, ◌≤◌, Bool, true, false, cond, List, [], ◌∷◌, length, Option, Some, None, Result, Ok, Err, refl, sym, ap, subst, ◌∙◌, arith}
 use Rattle.std.specs.Prelude.{IsTrue, IfSome, All, ◌&&◌, nat_lt, is_some}
 use Rattle.std.specs.List.{AllByRecursion}
-use Rattle.std.specs.Ordering.{eq_by_cmp, is_eq, is_lt}
+use Rattle.std.specs.Ordering.{eq_by_cmp, is_eq}
 use Rattle.std.specs.declared.cmp.Ordering.{Ordering}
 use Rattle.std.specs.declared.cmp.Ordering.TheVariants.{Less, Equal, Greater}
 use Rattle.std.specs.Cmp.{tied_itself}
@@ -25,7 +25,7 @@ use Rattle.stash_format.specs.Blocks.{Blocks, rises, row_at, blocks_at}
 use Rattle.stash_format.specs.declared.contents.Contents.{Contents}
 use Rattle.stash_format.specs.Kept.{HasRows, IsStash, HasBoth}
 use Rattle.stash_format.specs.Spelled.{IsRow, HasSpelling}
-use Rattle.stash_format.proofs.Rising.{order, entries-empty}
+use Rattle.stash_format.proofs.Rising.{order, is_less, entries-empty}
 
 is_equal : (o : Ordering) → is_eq o ≡ true → o ≡ Equal
 is_equal Less e = absurd cc
@@ -34,11 +34,6 @@ is_equal Greater e = absurd cc
 
 pub same_label : (q label : List ℕ) → eq_by_cmp order q label ≡ true → q ≡ label
 same_label q label tie = slice_cmp-IsAntisymmetric nat_cmp-IsAntisymmetric q label (is_equal (order q label) tie)
-
-is_less : (o : Ordering) → is_lt o ≡ true → o ≡ Less
-is_less Less e = refl
-is_less Equal e = absurd cc
-is_less Greater e = absurd cc
 
 -- a label ties with itself
 tied_with_itself : (label : List ℕ) → eq_by_cmp order label label ≡ true

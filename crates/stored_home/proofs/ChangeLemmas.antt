@@ -9,6 +9,7 @@ use Rattle.pw_types.specs.declared.stamp.Stamp.{Stamp}
 use Rattle.record_names.specs.Names.{is_account_name, AreParts, File, stash_name, factor_name, file_name}
 use Rattle.share_api.specs.Contents.{Bytes, Contents, leaves_left, settled}
 use Rattle.share_api.specs.Steps.{done, with_leaf, doubted}
+use Rattle.share_api.proofs.StepLaws.{settled_same}
 use Rattle.share_api.specs.declared.leaf.Leaf.{Leaf}
 use Rattle.share_api.specs.declared.step.Write.TheVariants.{Put, RemoveLeaf}
 use Rattle.stash_format.specs.declared.block.Block.{Block}
@@ -74,10 +75,6 @@ module _ (lost : Bool) (account : Bytes) (keys : Keys) (plain : IsTrue (is_accou
 
 -- ---- leaves
 
--- where no leaf is in doubt, the contents are settled
-clear_is_settled : (contents : Contents) → contents.doubt ≡ None → settled contents ≡ contents
-clear_is_settled contents clear = λ i. record contents { leaves = leaves_left (clear i) contents.leaves; doubt = sym clear i }
-
 -- contents with a leaf in doubt are settled as if it had never been there
 pub doubted_settled : (contents : Contents) (tree : ℕ) (leaf : Leaf) → contents.doubt ≡ None
     → get contents.leaves tree ≡ None → settled (doubted contents tree leaf) ≡ settled contents
@@ -99,9 +96,9 @@ module _ (lost : Bool) (account : Bytes) (keys : Keys) (contents : Contents) (du
         stash = Some stash;
         there = there;
         holds = subst (λ c. HoldsBy lost c account durable keys stash)
-            (sym (clear_is_settled (with_leaf contents tree leaf) clear))
+            (sym (settled_same (with_leaf contents tree leaf) clear))
             (leaf_added lost account keys durable stash contents tree
-            (subst (λ c. HoldsBy lost c account durable keys stash) (clear_is_settled contents clear) holds) leaf free);
+            (subst (λ c. HoldsBy lost c account durable keys stash) (settled_same contents clear) holds) leaf free);
       }
 
   -- neither does the removal of a leaf that no factor's record names
@@ -116,9 +113,9 @@ module _ (lost : Bool) (account : Bytes) (keys : Keys) (contents : Contents) (du
         stash = Some stash;
         there = there;
         holds = subst (λ c. HoldsBy lost c account durable keys stash)
-            (sym (clear_is_settled (done (RemoveLeaf tree) contents) clear))
+            (sym (settled_same (done (RemoveLeaf tree) contents) clear))
             (leaf_taken lost account keys durable stash contents tree
-            (subst (λ c. HoldsBy lost c account durable keys stash) (clear_is_settled contents clear) holds) unnamed);
+            (subst (λ c. HoldsBy lost c account durable keys stash) (settled_same contents clear) holds) unnamed);
       }
 
 -- a PIN's count and stamp change with those of its leaf
@@ -138,9 +135,9 @@ counted_held account keys contents durable stash label factor row tree leaf wron
       stash = Some stash;
       there = there;
       holds = subst (λ c. HoldsBy false c account (durable_set durable label (factor_counted factor wrong last)) keys stash)
-          (sym (clear_is_settled (with_leaf contents tree (leaf_counted leaf wrong last)) clear))
+          (sym (settled_same (with_leaf contents tree (leaf_counted leaf wrong last)) clear))
           (pin_counted account keys contents durable stash label factor row tree leaf wrong last
-          (subst (λ c. HoldsBy false c account durable keys stash) (clear_is_settled contents clear) h)
+          (subst (λ c. HoldsBy false c account durable keys stash) (settled_same contents clear) h)
           at is_pin read names found some);
     }
 
