@@ -20,7 +20,7 @@ use Rattle.account_machine.specs.declared.request.Turn.{Turn}
 use Rattle.account_machine.specs.declared.request.Turn.TheVariants.{Look, Act, Clear}
 use Rattle.account_machine.specs.declared.user.Durable.{Durable}
 use Rattle.account_machine.specs.declared.user.User.{User}
-use Rattle.account_machine.specs.declared.user.Era.{Era}
+use Rattle.pw_types.specs.declared.era.Era.{Era}
 use Rattle.account_machine.specs.Outline.{Bytes, session_at, is_pin_kind}
 use Rattle.account_machine.specs.Sessions.{changed, ended, with_session}
 use Rattle.account_machine.specs.User.{new_home}

@@ -1,7 +1,7 @@
 -- The history of an account: entries that lead by steps from one user to another.
 use Rattle.std.specs.Prelude.{◌≡◌, ℕ, ◌==◌, List, [], ◌∷◌, filter}
 use Rattle.account_machine.specs.declared.user.User.{User}
-use Rattle.account_machine.specs.declared.user.Era.{Era}
+use Rattle.pw_types.specs.declared.era.Era.{Era}
 use Rattle.account_machine.specs.declared.entry.Entry.{Entry}
 use Rattle.account_machine.specs.Step.{Step}
 

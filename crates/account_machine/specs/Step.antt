@@ -3,7 +3,7 @@ use Rattle.std.specs.Prelude.{◌≡◌, ◌<◌, ◌^◌, ◌⊎◌, max, map, 
 use Rattle.std.specs.FinMap.{entries}
 use Rattle.account_machine.specs.declared.user.Durable.{Durable}
 use Rattle.account_machine.specs.declared.user.User.{User}
-use Rattle.account_machine.specs.declared.user.Era.{Era}
+use Rattle.pw_types.specs.declared.era.Era.{Era}
 use Rattle.account_machine.specs.declared.request.Request.TheVariants.{ListFactors}
 use Rattle.account_machine.specs.declared.request.Turn.{Turn}
 use Rattle.account_machine.specs.declared.request.Turn.TheVariants.{Look, Act, Clear}

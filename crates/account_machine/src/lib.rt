@@ -24,4 +24,4 @@ pub use table::{
     MOST_FACTORS, MOST_FILE_BYTES, MOST_FILES, MOST_PINS, is_secret, names_tree, refusal,
     turn_refusal,
 };
-pub use user::{Durable, Era, User};
+pub use user::{Durable, User};

@@ -8,13 +8,6 @@ use ct_bytes::{Blob, NoMemory};
 use name_map::{Copied, NameMap};
 use std::alloc::Global;
 
-/// The boot of a run, and the moment at which it opened, in seconds.
-#[derive(Clone, Copy, Debug, PartialEq, Eq)]
-pub struct Era {
-    pub boot: u64,
-    pub start: u64,
-}
-
 /// What an account keeps over a restart: whether its home is made, the edition that its next factor
 /// gets, from 1, its factors by label, and the files of its vault by name.
 #[derive(Debug, Drop)]

@@ -19,7 +19,7 @@ use Rattle.home_daemon.specs.Stash.{Has, HoldsUser, PutsRecord, Lasts}
 use Rattle.home_daemon.specs.Account.{Continues, Opens, Survives, StaysHeld, Explains, storage_faults, name_of, user_of, entries_of}
 use Rattle.home_daemon.specs.Desk.{DeskSeen, HandsOut}
 use Rattle.home_daemon.specs.Output.{IsOutput}
-use Rattle.home_daemon.specs.Turns.{cut_moment}
+use Rattle.pw_types.specs.Moment.{cut_moment}
 use Rattle.home_daemon.proofs.Outputs.{output_owns}
 use Rattle.home_daemon.proofs.Puts.{not_temporary}
 use Rattle.home_daemon.proofs.Surviving.{survives_after}

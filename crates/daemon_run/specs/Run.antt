@@ -19,7 +19,7 @@ use Rattle.home_daemon.specs.Home.{NamesDamage}
 use Rattle.home_daemon.specs.Account.{StaysHeld, HasOk, Explains, storage_faults}
 use Rattle.home_daemon.specs.Desk.{DeskSeen, KeepsBoard, HandsOut}
 use Rattle.home_daemon.specs.Output.{Owned, IsOutput, own_entries}
-use Rattle.home_daemon.specs.Turns.{cut_moment}
+use Rattle.pw_types.specs.Moment.{cut_moment}
 use Rattle.daemon_run.specs.declared.outcome.Ending.{Ending}
 use Rattle.daemon_run.specs.declared.outcome.Ending.TheVariants.{Served, BadWords, BoardFault, Damaged, NoMemory, ClientFault, TooMany, InputLimit, NoEntropy}
 use Rattle.daemon_run.specs.Words.{Asked}

@@ -6,17 +6,15 @@ ghost use Rattle.home_names.specs.Names.{is_account_name};
 ghost use Rattle.home_daemon.specs.declared.desk.Client.{Client as ClientSeen};
 ghost use Rattle.home_daemon.specs.Account.{Opens};
 ghost use Rattle.home_daemon.specs.Desk.{HandsOut};
-ghost use Rattle.home_daemon.specs.Turns.{cut_moment};
+ghost use Rattle.pw_types.specs.Moment.{cut_moment};
 ghost use Rattle.daemon_run.specs.Opening.{FailsToOpen};
 ghost use Rattle.daemon_run.specs.Served.{ServesClient};
 
 use board_model::Board;
 use home_daemon::{Account, Client, Desk, DeskFault, LineClient, OpenFault};
+use pw_types::cut_moment;
 use request_loop::{Clock, LoopEnd, Sink, Source, serve_client};
 use std::alloc::Global;
-
-/// The last moment, in seconds. A greater number counts as this one.
-const LAST_MOMENT: u64 = (1 << 40) - 1;
 
 /// Why an account wasn't opened.
 pub enum Unopened<B> {
@@ -51,7 +49,7 @@ pub fn open_account<D: Desk>(
         dir.now name.now (D.seen desk.old) (D.seen desk.new)) }
     ensures clients { HandsOut (D.seen desk.old) (D.seen desk.new) [] }
 {
-    let moment = desk.start_moment().min(LAST_MOMENT);
+    let moment = cut_moment(desk.start_moment());
     let board = match desk.open_board(alloc, dir) {
         Ok(board) => board,
         Err(fault) => return Err(Unopened::NoBoard(fault)),

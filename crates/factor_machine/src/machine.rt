@@ -10,10 +10,8 @@ ghost use Rattle.factor_machine.specs.declared.entry.Answer.{Answer as AnswerSee
 
 use crate::{Answer, Durable, Entry, Era, Request, Told, Turn, User};
 use ct_bytes::NoMemory;
+use pw_types::LAST_MOMENT;
 use std::alloc::Global;
-
-/// The first number that is no moment.
-const MOMENT_END: u64 = 1 << 40;
 
 // What the table gives a turn: the answer, and the durable part after it.
 #[derive(Drop)]
@@ -102,7 +100,7 @@ pub fn step(alloc: Global, user: &mut User, era: Era, entry: &Entry) -> Result<b
     ensures err { OnErr result (user.new ≡ user.old) }
 {
     let _ = (alloc, era);
-    if entry.given >= MOMENT_END || entry.moment != user.last.max(entry.given) {
+    if entry.given > LAST_MOMENT || entry.moment != user.last.max(entry.given) {
         return Ok(false);
     }
     if entry.told == Told::Failed {

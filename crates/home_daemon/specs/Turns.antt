@@ -1,5 +1,5 @@
 -- The turns of an account.
-use Rattle.std.specs.Prelude.{◌≡◌, ◌≢◌, ℕ, ◌-◌, ◌^◌, min, List}
+use Rattle.std.specs.Prelude.{◌≡◌, ◌≢◌, ℕ, List}
 use Rattle.board_model.specs.Disk.{Image}
 use Rattle.factor_machine.specs.declared.entry.Request.{Request}
 use Rattle.factor_machine.specs.declared.entry.Answer.{Answer}
@@ -11,6 +11,7 @@ use Rattle.home_daemon.specs.declared.account.TurnEnd.{TurnEnd}
 use Rattle.home_daemon.specs.declared.account.TurnEnd.TheVariants as ends
 use Rattle.home_daemon.specs.Stash.{HoldsUser}
 use Rattle.home_daemon.specs.Home.{user_in}
+use Rattle.pw_types.specs.Moment.{cut_moment}
 
 -- the answer of a turn, where the account's record has this name
 abbrev pub answer_of : TurnEnd → List ℕ → Answer
@@ -29,10 +30,6 @@ pub record LeavesHeld (account : List ℕ) (before after : HomeState) (end : Tur
 abbrev pub TakesTurn : List ℕ → HomeState → HomeState → TurnEnd → Image → Image → Type 0
 TakesTurn account before after end old new =
     HoldsUser old.files account (user_in before 0) → LeavesHeld account before after end new
-
--- a number past the last moment counts as the last moment
-abbrev pub cut_moment : ℕ → ℕ
-cut_moment number = min number (2 ^ 40 - 1)
 
 -- one turn of a client: what it asked, with the number of its clock, and the answer
 pub record IsActOf (caller number : ℕ) (request : Request) (answer : Answer) (turn : Entry) : Type 0 where

@@ -23,10 +23,8 @@ use crate::{Book, Entries, HomeState};
 use board_model::Board;
 use ct_bytes::{NoMemory, Text};
 use factor_machine::{Answer, Entry, Request, Told, Turn};
+use pw_types::cut_moment;
 use std::alloc::Global;
-
-/// The last moment, in seconds. A greater number counts as this one.
-const LAST_MOMENT: u64 = (1 << 40) - 1;
 
 /// How a turn came out. The record of `Damaged` is the account's stash.
 #[derive(Clone, Copy, Debug, PartialEq, Eq)]
@@ -224,7 +222,7 @@ impl<B: Board + Drop> Account<B> {
         self.entries.reserve(1)?;
         let name = self.stash.name()?;
         let copy = self.stash.name()?;
-        let given = number.min(LAST_MOMENT);
+        let given = cut_moment(number);
         let moment = self.last.max(given);
         let steps_before = self.steps;
         let (told, end) = take_turn(

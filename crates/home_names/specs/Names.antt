@@ -1,4 +1,4 @@
--- The grammars of account names and of record names.
+-- The grammars of account names, of factor labels and of record names.
 use Rattle.std.specs.Prelude.{◌≡◌, ℕ, Bool, ◌&&◌, ◌||◌, nat_le, List, ◌++◌, length, codes, IsTrue}
 use Rattle.std.specs.List.{list_all}
 
@@ -10,6 +10,11 @@ is_name_byte byte = (nat_le 97 byte && nat_le byte 122) || (nat_le 48 byte && na
 abbrev pub is_account_name : List ℕ → Bool
 is_account_name name =
     nat_le 1 (length name) && nat_le (length name) 32 && list_all is_name_byte name
+
+-- the label of a factor: 1 to 16 such bytes
+abbrev pub is_factor_label : List ℕ → Bool
+is_factor_label label =
+    nat_le 1 (length label) && nat_le (length label) 16 && list_all is_name_byte label
 
 -- the name of an account's stash record
 abbrev pub stash_name : List ℕ → List ℕ

@@ -1,6 +1,6 @@
-//! The names of accounts and of their records.
+//! The names of accounts, of their factors and of their records.
 #![tactic(auto)]
 
 mod account;
 
-pub use account::is_account_name;
+pub use account::{is_account_name, is_factor_label};

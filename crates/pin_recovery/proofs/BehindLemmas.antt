@@ -32,7 +32,7 @@ use Rattle.pin_ops.specs.Following.{IsFound}
 use Rattle.pin_ops.specs.Resyncing.{lost, redone, replayed, replay_of, put_if_noted, missing, resynced}
 use Rattle.pin_recovery.specs.Devices.{Leaves, Devices, tree_of, record_at, held_in, AreLeaves, AreInStep}
 use Rattle.pin_recovery.specs.Recovery.{resync_of, leaves_by, words_by, tree_by, undone, Recovers}
-use Rattle.pin_recovery.proofs.RootLemmas.{same_root, other_root}
+use Rattle.pw_log.proofs.LogLemmas.{same_root, other_root}
 use Rattle.pin_recovery.proofs.LeafLemmas.{root_leaf, values_with, leaves_with, mac_is, held_written, opened_own}
 
 -- ---- the log's answer

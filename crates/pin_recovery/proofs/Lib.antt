@@ -1,4 +1,3 @@
-pub mod RootLemmas
 pub mod LeafLemmas
 pub mod BehindLemmas
 pub mod AtomicLemmas

@@ -11,7 +11,7 @@ use Rattle.pw_chip.specs.Law.{value_of, values}
 use Rattle.pw_chip.proofs.StepLemmas.{insert_step-ok}
 use Rattle.pin_recovery.specs.Devices.{Devices, record_of, AreInStep}
 use Rattle.pin_recovery.specs.LeafCalls.{LeafOp, InsertLeaf, TryLeaf, ResetLeaf, RemoveLeaf, call_of, IsLeafOp, IsAnswered}
-use Rattle.pin_recovery.proofs.RootLemmas.{same_root}
+use Rattle.pw_log.proofs.LogLemmas.{same_root}
 use Rattle.pin_recovery.proofs.LeafLemmas.{opened_own}
 use Rattle.pin_recovery.proofs.BehindLemmas.{remove_done}
 

@@ -24,7 +24,7 @@ use Rattle.pw_chip.proofs.EraLemmas.{era_step}
 use Rattle.pw_chip.proofs.StepLemmas.{insert_step-ok}
 use Rattle.pin_recovery.specs.Devices.{Leaves, Devices, record_of, AreInStep}
 use Rattle.pin_recovery.specs.LeafCalls.{LeafOp, InsertLeaf, TryLeaf, ResetLeaf, RemoveLeaf, call_of, stepped, IsLeafOp}
-use Rattle.pin_recovery.proofs.RootLemmas.{same_root}
+use Rattle.pw_log.proofs.LogLemmas.{same_root}
 use Rattle.pin_recovery.proofs.LeafLemmas.{opened_own}
 use Rattle.pin_recovery.proofs.BehindLemmas.{remove_done}
 use Rattle.pin_recovery.proofs.AtomicLemmas.{crash_atomic}

@@ -9,7 +9,8 @@ use Rattle.pw_types.specs.declared.delay.Readiness.TheVariants as delay
 use Rattle.pw_leaf.specs.Contents.{Contents, no_stamp}
 use Rattle.pw_leaf.specs.LeafBytes.{leaf_mac}
 use Rattle.pin_recovery.specs.LeafCalls.{LeafOp, InsertLeaf, TryLeaf, ResetLeaf, RemoveLeaf, IsLeafOp, stepped}
-use Rattle.platform_model.specs.Views.{Records, Platform, PlainLeaf, View, Era}
+use Rattle.platform_model.specs.Views.{Records, Platform, PlainLeaf, View}
+use Rattle.pw_types.specs.declared.era.Era.{Era}
 
 -- what a device step does. A removal of a leaf that isn't there or is another account's is a look.
 pub data Op : Type 0 where

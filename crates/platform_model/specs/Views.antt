@@ -6,6 +6,7 @@ use Rattle.std.specs.FinMap.{FinMap}
 use Rattle.pw_types.specs.declared.stamp.Stamp.{Stamp}
 use Rattle.pw_leaf.specs.Contents.{Contents}
 use Rattle.pin_recovery.specs.Devices.{Leaves, Devices}
+use Rattle.pw_types.specs.declared.era.Era.{Era}
 
 -- records by name
 abbrev pub Records : Type 0
@@ -42,11 +43,6 @@ owned owners leaves account label = if owners label == account then option_map p
 -- what an account has of the platform
 abbrev pub view_of : Platform → ℕ → View
 view_of s account = record { records = s.records account; leaves = owned s.owners s.devices.leaves account }
-
--- the boot of a run and its start
-pub record Era : Type 0 where
-  pub boot : ℕ
-  pub start : ℕ
 
 -- the era of the devices
 abbrev pub era_of : Platform → Era

@@ -1,1 +1,1 @@
-mod LogLemmas
+pub mod LogLemmas

@@ -2,12 +2,14 @@
 #![tactic(auto)]
 
 mod delay;
+mod era;
 mod laws;
 mod moment;
 mod schedule;
 mod stamp;
 
 pub use delay::{Readiness, ready};
+pub use era::Era;
 pub use laws::{
     deciding_pair, limit_locks, locked_stays_locked, more_tries_wait_longer,
     wait_ends_at_its_moment,

@@ -7,25 +7,15 @@ use Rattle.std.proofs.lemmas.Bool.{and_parts, and_right, or_cases, leb-true, fal
 use Rattle.std.proofs.lemmas.Str.{IsUtf8-from_ascii}
 use Rattle.std.proofs.lemmas.Str.Ascii.{IsAscii-nil, IsAscii-cons}
 use Rattle.home_names.specs.Names.{is_name_byte, is_account_name}
+use Rattle.home_names.proofs.NameLemmas.{IsAscii-name_bytes}
 use Rattle.ct_bytes.specs.Fields.{field8}
 use Rattle.ct_bytes.proofs.ReadLemmas.{field8_at-front}
-use Rattle.record_fields.specs.Names.{is_factor_label, account_at, label_at}
-
-byte_is_ascii : (byte : ℕ) → is_name_byte byte ≡ true → byte < 128
-byte_is_ascii byte is =
-    elim (or_cases (nat_le 97 byte && nat_le byte 122) (nat_le 48 byte && nat_le byte 57) is) [
-      | inl letter ↦ omega (arith, leb-true byte 122 (and_parts (nat_le 97 byte) (nat_le byte 122) letter).1)
-      | inr digit ↦ omega (arith, leb-true byte 57 (and_parts (nat_le 48 byte) (nat_le byte 57) digit).1)
-    ]
-
-bytes_are_ascii : (bytes : List ℕ) → list_all is_name_byte bytes ≡ true → IsAscii bytes
-bytes_are_ascii [] all = IsAscii-nil
-bytes_are_ascii (byte ∷ bytes) all =
-    let parts = and_parts _ _ all in IsAscii-cons byte bytes (byte_is_ascii byte parts.0) (bytes_are_ascii bytes parts.1)
+use Rattle.home_names.specs.Names.{is_factor_label}
+use Rattle.record_fields.specs.Names.{account_at, label_at}
 
 -- bytes that aren't text aren't a name's
 pub not_text : (bytes : List ℕ) → (IsUtf8 bytes → ⊥) → list_all is_name_byte bytes ≡ false
-not_text bytes none = false_from_ne_true _ (λ all. none (IsUtf8-from_ascii bytes (bytes_are_ascii bytes all)))
+not_text bytes none = false_from_ne_true _ (λ all. none (IsUtf8-from_ascii bytes (IsAscii-name_bytes bytes all)))
 
 -- names have name bytes alone
 pub plain_account : (bytes : List ℕ) → list_all is_name_byte bytes ≡ false → is_account_name bytes ≡ false

@@ -1,14 +1,9 @@
 -- Names as fields of a record.
-use Rattle.std.specs.Prelude.{ℕ, Bool, ◌&&◌, nat_le, List, length, Result, Ok}
-use Rattle.std.specs.List.{list_all}
-use Rattle.home_names.specs.Names.{is_name_byte, is_account_name}
+use Rattle.std.specs.Prelude.{ℕ, Bool, List, Result, Ok}
+use Rattle.home_names.specs.Names.{is_account_name, is_factor_label}
 use Rattle.ct_bytes.specs.declared.fault.ByteFault.{ByteFault}
 use Rattle.ct_bytes.specs.Reading.{Unread, field8_at, rule, or_fault, ◌>>=◌, ◌>>◌}
 use Rattle.record_fields.specs.declared.fault.BadField.{BadField}
-
--- a factor label: 1 to 16 of a to z and 0 to 9
-abbrev pub is_factor_label : List ℕ → Bool
-is_factor_label label = nat_le 1 (length label) && nat_le (length label) 16 && list_all is_name_byte label
 
 -- a field that begins here is bad
 abbrev pub bad_here : Unread → BadField

@@ -6,4 +6,4 @@ mod fault;
 mod names;
 
 pub use fault::BadField;
-pub use names::{is_factor_label, take_account, take_label};
+pub use names::{take_account, take_label};

@@ -2,24 +2,12 @@
 
 ghost use Rattle.std.specs.Prelude.{◌≡◌, false, IsTrue, IfOk, IfErr, IfSome, IfNone, Ok, Err};
 ghost use Rattle.std.specs.List.{list_all};
-ghost use Rattle.home_names.specs.Names.{is_name_byte, is_account_name};
-ghost use Rattle.record_fields.specs.Names.{is_factor_label, account_at, label_at};
+ghost use Rattle.home_names.specs.Names.{is_name_byte, is_account_name, is_factor_label};
+ghost use Rattle.record_fields.specs.Names.{account_at, label_at};
 
 use crate::fault::BadField;
 use ct_bytes::Reader;
-use home_names::is_account_name;
-
-/// The most bytes of a factor label.
-const MAX_FACTOR_LABEL: usize = 16;
-
-// Whether all bytes may stand in a name.
-fn are_name_bytes(bytes: &[u8]) -> bool
-    ensures value { result ≡ list_all is_name_byte bytes.now }
-{
-    bytes
-        .iter()
-        .all(|byte| byte.is_ascii_lowercase() || byte.is_ascii_digit())
-}
+use home_names::{is_account_name, is_factor_label};
 
 // The bytes as text. None only where one of them may not stand in a name.
 #[tactic(auto, using(crate::proofs::NameLemmas::not_text))]
@@ -31,17 +19,6 @@ fn text_of(field: &[u8]) -> Option<&str>
         Ok(text) => Some(text),
         Err(_) => None,
     }
-}
-
-/// Whether this is a factor label: 1 to 16 of `a` to `z` and `0` to `9`.
-pub fn is_factor_label(label: &str) -> bool
-    ensures value { result ≡ is_factor_label label.now }
-{
-    let bytes = label.as_bytes();
-    if bytes.is_empty() || bytes.len() > MAX_FACTOR_LABEL {
-        return false;
-    }
-    are_name_bytes(bytes)
 }
 
 /// The account that stands next.

@@ -16,6 +16,7 @@ use Rattle.std.proofs.lemmas.Fmt.{IsAscii-decimal, decimal_injective}
 use Rattle.hex.specs.Hex.{encode_lower, lower_digits, decode_of, decode_sized, IsBytes}
 use Rattle.hex.specs.declared.error.FromHexError.{FromHexError}
 use Rattle.hex.proofs.HexLemmas.{IsAscii-encode_with, decode_of-encode_lower, decode_sized-encode_lower, length-encode_with}
+use Rattle.home_names.proofs.NameLemmas.{IsAscii-name_bytes}
 use Rattle.record_names.specs.Names.{Bytes, is_name_byte, is_account_name, is_factor_label, five_digits, Parts, Stash, Factor, Leaf, File, AreParts, owner_of, end_of, name_of, account_of, tail_of, is_full_stop, stash_end, factor_end, leaf_end, file_end, IsRecordName}
 
 and_first : (a b : Bool) → (a && b) ≡ true → a ≡ true
@@ -44,16 +45,8 @@ length-label label is =
 pub bytes-label : (label : Bytes) → IsTrue (is_factor_label label) → list_all is_name_byte label ≡ true
 bytes-label label is = and_second (nat_le 1 (length label) && nat_le (length label) 16) (list_all is_name_byte label) is
 
-name_byte_ascii : (byte : ℕ) → is_name_byte byte ≡ true → byte < 128
-name_byte_ascii byte is = grind (arith, nat_tests)
-
 pub no_full_stop : (byte : ℕ) → is_name_byte byte ≡ true → (byte == 46) ≡ false
 no_full_stop byte is = grind (arith, nat_tests)
-
-pub IsAscii-name_bytes : (bytes : Bytes) → list_all is_name_byte bytes ≡ true → IsAscii bytes
-IsAscii-name_bytes [] is = IsAscii-nil
-IsAscii-name_bytes (byte ∷ bytes) is =
-    IsAscii-cons byte bytes (name_byte_ascii byte (and_first (is_name_byte byte) (list_all is_name_byte bytes) is)) (IsAscii-name_bytes bytes (and_second (is_name_byte byte) (list_all is_name_byte bytes) is))
 
 pub IsAscii-five_digits : (n : ℕ) → n < 100000 → IsAscii (five_digits n)
 IsAscii-five_digits n h =

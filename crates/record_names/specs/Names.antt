@@ -4,15 +4,10 @@ use Rattle.std.specs.List.{list_all, before_first}
 use Rattle.std.specs.Str.{IsUtf8}
 use Rattle.std.specs.Fmt.{decimal}
 use Rattle.hex.specs.Hex.{encode_lower, IsBytes}
-pub use Rattle.home_names.specs.Names.{is_name_byte, is_account_name}
+pub use Rattle.home_names.specs.Names.{is_name_byte, is_account_name, is_factor_label}
 
 abbrev pub Bytes : Type 0
 Bytes = List ℕ
-
--- the label of a factor: 1 to 16 of a to z and 0 to 9
-abbrev pub is_factor_label : Bytes → Bool
-is_factor_label label =
-    nat_le 1 (length label) && nat_le (length label) 16 && list_all is_name_byte label
 
 -- a number below 100,000 in five decimal digits
 abbrev pub five_digits : ℕ → Bytes

@@ -1,7 +1,8 @@
 -- What holds throughout steps that make a list of changes, or an insert and then such a list.
 use Rattle.std.proofs.Common.{◌≡◌, ℕ, List, [], ◌∷◌, None, refl, sym, ◌∙◌, subst, ⊎_elim}
 use Rattle.std.specs.FinMap.{get}
-use Rattle.share_api.specs.Contents.{Contents, Era, settled, leaves_left}
+use Rattle.share_api.specs.Contents.{Contents, settled, leaves_left}
+use Rattle.pw_types.specs.declared.era.Era.{Era}
 use Rattle.share_api.specs.Folds.{Fold, Throughout}
 use Rattle.share_api.specs.Steps.{leaf_of, with_leaf, doubted, done, after, Leads, Does, ThenReply, Follows, Along, AllDone, ThenLabel, FollowsInsert}
 use Rattle.share_api.specs.declared.leaf.NewLeaf.{NewLeaf}

@@ -8,11 +8,6 @@ use Rattle.share_api.specs.declared.leaf.Leaf.{Leaf}
 abbrev pub Bytes : Type 0
 Bytes = List ℕ
 
--- the chip's boots up to a run, and the moment at which the last of them began
-pub record Era : Type 0 where
-  pub boot : ℕ
-  pub start : ℕ
-
 abbrev pub Records : Type 0
 Records = FinMap (slice_cmp nat_cmp) Bytes
 

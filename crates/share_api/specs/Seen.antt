@@ -2,7 +2,8 @@
 use Rattle.std.specs.Prelude.{◌≡◌, ◌⊎◌, ℕ, ◌+◌, ◌%◌, ◌^◌, List, [], ◌∷◌, ◌++◌, Option, length}
 use Rattle.std.specs.List.{AllByRecursion}
 use Rattle.fault_count.specs.Causes.{HasCause}
-use Rattle.share_api.specs.Contents.{Bytes, Era}
+use Rattle.share_api.specs.Contents.{Bytes}
+use Rattle.pw_types.specs.declared.era.Era.{Era}
 use Rattle.share_api.specs.Places.{steps_of, place_after}
 use Rattle.share_api.specs.Steps.{Follows, AllDone}
 use Rattle.share_api.specs.declared.step.Op.{Op}

@@ -5,7 +5,8 @@ use Rattle.pw_types.specs.Delay.{readiness}
 use Rattle.pw_types.specs.declared.stamp.Stamp.{Stamp}
 use Rattle.pw_types.specs.declared.delay.Readiness.{Readiness}
 use Rattle.pw_types.specs.declared.delay.Readiness.TheVariants as readinesses
-use Rattle.share_api.specs.Contents.{Bytes, Contents, Era, settled}
+use Rattle.share_api.specs.Contents.{Bytes, Contents, settled}
+use Rattle.pw_types.specs.declared.era.Era.{Era}
 use Rattle.share_api.specs.declared.leaf.Leaf.{Leaf}
 use Rattle.share_api.specs.declared.leaf.NewLeaf.{NewLeaf}
 use Rattle.share_api.specs.declared.leaf.LeafView.{LeafView}

@@ -18,7 +18,7 @@ returns-clause-allowed c = λ allowed.
     let user = c.args.user.now in
     let entry = c.args.entry.now in
     record {
-      given = grind (arith, common_steps, c.if-entry-ge-MOMENT_END.false);
+      given = grind (arith, common_steps, c.if-entry-gt-LAST_MOMENT.false);
       moment = grind (arith, common_steps, c.max.ensures, c.if-entry-max.false);
       turned = turned c.args.era user.durable entry.moment c.in-Some.start entry.turn entry.answer c.in-Some-2.after entry.told user.other
           (sym c.in_ok-start.ensures.value ∙ c.in-Some.is)

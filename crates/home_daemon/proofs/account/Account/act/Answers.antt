@@ -6,7 +6,8 @@ use Rattle.factor_machine.specs.declared.entry.Entry.{Entry}
 use Rattle.factor_machine.specs.declared.entry.Answer.{Answer}
 use Rattle.factor_machine.specs.Step.{Turned}
 use Rattle.home_daemon.specs.Home.{user_in}
-use Rattle.home_daemon.specs.Turns.{answer_of, cut_moment}
+use Rattle.pw_types.specs.Moment.{cut_moment}
+use Rattle.home_daemon.specs.Turns.{answer_of}
 use Rattle.board_model.proofs.Effects.{unchanged_none}
 use Rattle.home_daemon.proofs.Puts.{puts_none}
 use Rattle.home_daemon.proofs.Continuing.{continues_still}
@@ -24,7 +25,7 @@ returns-clause-turn g c =
     let taken = c.take_turn-told in
     let turn : Entry = record {
       caller = 0;
-      given = c.min-given.result;
+      given = c.cut_moment-given.result;
       moment = c.max-moment.result;
       told = taken.result.0;
       turn = Act c.args.request;
@@ -33,8 +34,8 @@ returns-clause-turn g c =
     } in
     let end = taken.result.1 in
     let answered : turn.answer ≡ answer_of end c.in_ok-name.name = c.answer.ensures.value in
-    let given : turn.given < 2 ^ 40 = grind (arith, common_steps, c.min-given.ensures) in
-    let cut : turn.given ≡ cut_moment c.args.number = grind (arith, common_steps, c.min-given.ensures) in
+    let given : turn.given < 2 ^ 40 = grind (arith, common_steps, c.cut_moment-given.ensures.value) in
+    let cut : turn.given ≡ cut_moment c.args.number = grind (arith, common_steps, c.cut_moment-given.ensures.value) in
     let moment : turn.moment ≡ max before.last turn.given = grind (arith, common_steps, c.max-moment.ensures) in
     let same_name : c.in_ok-name.name ≡ c.in_ok-copy.copy = c.in_ok-name.ensures.value ∙ sym c.in_ok-copy.ensures.value in (
       turn,
