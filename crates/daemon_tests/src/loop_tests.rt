@@ -126,6 +126,28 @@ fn a_sink_fault_ends_the_loop_at_its_write(rt: HostRuntime) -> Result<(), Fail> 
     Ok(())
 }
 
+#[test]
+fn the_next_read_waits_for_the_replies_to_the_last(rt: HostRuntime) -> Result<(), Fail> {
+    let alloc = rt.alloc();
+    // each read gives one line; the write that fails, what was written, and the line that the next read gives
+    for (fails, want, next) in [
+        (1, "", "cd\n"),
+        (2, "1ab\n", "ef\n"),
+        (3, "1ab\n2cd\n", "gh\n"),
+    ] {
+        let bytes = Vec::from_slice(alloc, b"ab\ncd\nef\ngh\n")?;
+        let mut source = MemSource::new(bytes, 3, numbers(alloc, &[])?);
+        let mut sink = MemSink::new(alloc, 100, numbers(alloc, &[fails])?)?;
+        let end = serve(alloc, &mut source, &mut sink)?;
+        assert_eq!(rt; end, LoopEnd::SinkFault);
+        assert_eq!(rt; sink.written(), want.as_bytes(), "write {fails} fails");
+        let mut buf = [b'.'; 3];
+        assert_eq!(rt; source.read(&mut buf), Ok(3));
+        assert_eq!(rt; buf.as_slice(), next.as_bytes());
+    }
+    Ok(())
+}
+
 // Answers by the line itself.
 #[derive(Drop)]
 struct Mirror;
