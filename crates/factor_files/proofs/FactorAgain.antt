@@ -1,5 +1,5 @@
 -- What a factor record was written with is read from it.
-use Rattle.std.proofs.Common.{◌≡◌, ℕ, ◌+◌, ◌<◌, ◌≤◌, ◌^◌, true, false, List, [], ◌∷◌, ◌++◌, length, Option, Some, None, Result, Ok, refl, sym, ap, ◌∙◌, arith}
+use Rattle.std.proofs.Common.{◌≡◌, ℕ, ◌+◌, ◌<◌, ◌^◌, true, List, [], ◌∷◌, ◌++◌, length, Option, Some, None, Ok, refl, sym, ap, ◌∙◌, arith}
 use Rattle.std.specs.Prelude.{nat_le, nat_lt, IfSome}
 use Rattle.std.specs.Int.{w16, w64, to_be_bytes}
 use Rattle.std.proofs.lemmas.Bool.{le-leb, lt-ltb}
@@ -7,7 +7,6 @@ use Rattle.std.proofs.lemmas.List.{append-nil}
 use Rattle.ct_bytes.specs.Fields.{field8}
 use Rattle.ct_bytes.specs.Reading.{Unread}
 use Rattle.ct_bytes.proofs.ReadLemmas.{u8_at-front, u16_at-front, u64_at-front, bytes_at-front, end_at-none}
-use Rattle.record_fields.specs.Names.{is_factor_label}
 use Rattle.record_fields.proofs.NameLemmas.{label_at-front}
 use Rattle.account_machine.specs.declared.factor.Kind.{Kind}
 use Rattle.account_machine.specs.declared.factor.Kind.TheVariants.{Password, Pin}

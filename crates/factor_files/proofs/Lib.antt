@@ -1,1 +1,2 @@
 pub mod FactorAgain
+pub mod FactorSize

@@ -1,5 +1,5 @@
 -- The fields of a factor record, each read behind the one before, with the first place that breaks a rule.
-use Rattle.std.specs.Prelude.{ℕ, Bool, ◌==◌, ◌&&◌, ◌||◌, nat_le, nat_lt, List, Option, Some, None, Result, Ok, Err, if◌then◌else◌}
+use Rattle.std.specs.Prelude.{ℕ, Bool, ◌==◌, ◌&&◌, ◌||◌, nat_le, nat_lt, Option, Some, None, Result, Ok, if◌then◌else◌}
 use Rattle.ct_bytes.specs.Fault.{place_of}
 use Rattle.ct_bytes.specs.declared.fault.ByteFault.{ByteFault}
 use Rattle.ct_bytes.specs.Reading.{Unread, u8_at, u16_at, u64_at, rule, or_fault, ◌>>=◌, ◌>>◌}

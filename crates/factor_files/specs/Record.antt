@@ -3,8 +3,9 @@ use Rattle.std.specs.Prelude.{◌≡◌, ℕ, ◌<◌, ◌≤◌, ◌^◌, List,
 use Rattle.std.specs.Result.{result_ok}
 use Rattle.std.specs.Int.{w16, w64, to_be_bytes}
 use Rattle.ct_bytes.specs.Fields.{field8}
-use Rattle.ct_bytes.specs.Reading.{Unread, start, bytes_at, end_at, or_fault, ◌>>=◌, ◌>>◌}
-use Rattle.record_fields.specs.Names.{is_factor_label, label_at}
+use Rattle.ct_bytes.specs.Reading.{start, bytes_at, end_at, or_fault, ◌>>=◌, ◌>>◌}
+use Rattle.home_names.specs.Names.{is_factor_label}
+use Rattle.record_fields.specs.Names.{label_at}
 use Rattle.account_machine.specs.declared.factor.Kind.{Kind}
 use Rattle.account_machine.specs.declared.factor.Kind.TheVariants.{Password, Pin}
 use Rattle.factor_files.specs.declared.fault.FactorFault.{FactorFault}
@@ -65,3 +66,7 @@ unfoldable pub factor_bytes : FactorRecord → List ℕ
 factor_bytes factor =
     (1 ∷ []) ++ ((number_of factor.kind ∷ []) ++ (field8 factor.label ++ (to_be_bytes w64 factor.edition
     ++ ((factor.cost ∷ []) ++ (factor.salt ++ leaf_bytes factor.leaf)))))
+
+-- the most bytes of a record: those of a PIN with a label of 16 bytes
+abbrev pub most_factor : ℕ
+most_factor = 46

@@ -1,13 +1,14 @@
 //! A factor's record.
 
-ghost use Rattle.std.specs.Prelude.{◌≡◌, ◌++◌, ◌<◌, IfSome, IfOk, IfErr, OnOk, Ok, Some};
+ghost use Rattle.std.specs.Prelude.{◌≡◌, ◌++◌, ◌<◌, ◌≤◌, length, IfSome, IfOk, IfErr, OnOk, Ok, Some};
 ghost use Rattle.factor_files.specs.Fields.{number_of};
-ghost use Rattle.factor_files.specs.Record.{factor_read, factor_at, Refuses, IsFactor, HasFactorSizes, factor_bytes, leaf_bytes};
+ghost use Rattle.factor_files.specs.Record.{factor_read, factor_at, Refuses, IsFactor, HasFactorSizes, factor_bytes, leaf_bytes, most_factor};
 
 use crate::fault::FactorFault;
 use crate::fields::{VERSION, take_cost, take_edition, take_kind, take_leaf, take_version};
 use account_machine::Kind;
 use ct_bytes::{Blob, NoMemory, Reader, Text};
+use name_map::Copied;
 use pw_path::Label;
 use record_fields::take_label;
 use std::alloc::Global;
@@ -58,16 +59,30 @@ impl FactorRecord {
         })
     }
 
-    /// The record of the factor.
-    #[tactic(auto, using(crate::proofs::FactorAgain::factor_again))]
+    /// The record of the factor, at most 46 bytes.
+    #[tactic(auto, using(crate::proofs::FactorAgain::factor_again, crate::proofs::FactorSize::factor_within))]
     pub fn write(&self, alloc: Global) -> Result<Blob, NoMemory>
         requires { IsFactor self.now }
         ensures value { IfOk result (λ bytes. bytes ≡ factor_bytes self.now) }
 
         // What is written is read again.
         ensures read { IfOk result (λ bytes. factor_at bytes ≡ Some self.now) }
+        ensures size { IfOk result (λ bytes. length bytes ≤ most_factor) }
     {
         written(alloc, self)
+    }
+}
+
+impl Copied for FactorRecord {
+    fn copy(&self) -> Result<FactorRecord, NoMemory> {
+        Ok(FactorRecord {
+            kind: self.kind,
+            label: self.label.copy()?,
+            edition: self.edition,
+            cost: self.cost,
+            salt: self.salt,
+            leaf: self.leaf,
+        })
     }
 }
 

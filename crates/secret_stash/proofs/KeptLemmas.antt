@@ -1,11 +1,11 @@
 -- What is kept by the changes of a stash.
-use Rattle.std.proofs.Common.{◌≡◌, ℕ, ◌+◌, ◌-◌, ◌<◌, ◌≤◌, Bool, true, false, cond, List, Option, Some, None, Result, Ok, Err, refl, sym, ap, subst, ◌∙◌, arith}
-use Rattle.std.specs.Prelude.{IsTrue, IfSome, OnOk, OnErr, is_some}
+use Rattle.std.proofs.Common.{◌≡◌, ℕ, ◌+◌, ◌-◌, ◌<◌, ◌≤◌, true, false, cond, List, Some, None, Result, Ok, Err, refl, sym, ap, subst, ◌∙◌, arith}
+use Rattle.std.specs.Prelude.{IsTrue, OnOk, OnErr, is_some}
 use Rattle.std.specs.Cmp.Lexicographic.{nat_list_cmp_total}
-use Rattle.std.specs.FinMap.{FinMap, empty, insert, remove, get, len, contains_key, len-insert, len-remove, len-empty}
+use Rattle.std.specs.FinMap.{insert, remove, get, len, contains_key, len-insert, len-remove}
 use Rattle.ct_bytes.specs.declared.memory.NoMemory.{NoMemory}
 use Rattle.home_names.specs.Names.{is_account_name}
-use Rattle.record_fields.specs.Names.{is_factor_label}
+use Rattle.home_names.specs.Names.{is_factor_label}
 use Rattle.stash_format.specs.declared.block.Block.{Block}
 use Rattle.stash_format.specs.declared.contents.Contents.{Contents}
 use Rattle.stash_format.specs.Blocks.{Blocks}

@@ -1,27 +1,25 @@
 -- The reset secrets that blocks name, and what a payload of them opens to.
-use Rattle.std.proofs.Common.{◌≡◌, ℕ, suc, ◌+◌, ◌<◌, ◌≤◌, ◌^◌, Bool, true, false, cond, List, [], ◌∷◌, ◌++◌, length, get_or, take, Option, Some, None, Result, Ok, refl, sym, ap, subst, ◌∙◌, arith}
-use Rattle.std.specs.Prelude.{IsTrue, IfSome, All, filter, ◌==◌}
+use Rattle.std.proofs.Common.{◌≡◌, ℕ, suc, ◌+◌, ◌<◌, ◌≤◌, Bool, true, false, cond, List, [], ◌∷◌, ◌++◌, length, get_or, take, Some, None, Ok, refl, sym, ap, ◌∙◌, arith}
+use Rattle.std.specs.Prelude.{IsTrue, IfSome, filter}
 use Rattle.std.specs.FinMap.{FinMap, empty, entries, insert, get, len, len-empty, len-entries}
 use Rattle.std.proofs.lemmas.List.{take_more}
 use Rattle.gcm_seal.proofs.GcmLemmas.{decrypted-encrypted}
 use Rattle.ct_bytes.specs.Reading.{or_fault}
-use Rattle.record_fields.specs.Names.{is_factor_label}
-use Rattle.sealed_text.specs.declared.sealed.Sealed.{Sealed}
+use Rattle.home_names.specs.Names.{is_factor_label}
 use Rattle.sealed_text.specs.Sealing.{sealed_under}
 use Rattle.sealed_text.proofs.OpeningLemmas.{opened_by_tag}
 use Rattle.sealed_text.proofs.SizeLemmas.{length-encrypted}
-use Rattle.stash_format.specs.declared.block.Block.{Block}
 use Rattle.stash_format.specs.declared.reset.Reset.{Reset}
 use Rattle.stash_format.specs.declared.payload.Payload.{Payload}
 use Rattle.stash_format.specs.Blocks.{Blocks}
 use Rattle.stash_format.specs.Resets.{Resets}
 use Rattle.stash_format.specs.Payloads.{payload_read}
 use Rattle.stash_format.specs.Live.{inserted_all}
+use Rattle.stash_format.specs.Sizes.{most_payload}
 use Rattle.stash_format.specs.Kept.{HasRows}
 use Rattle.stash_format.specs.Spelled.{HasResetSpelling}
 use Rattle.stash_format.proofs.Rising.{order}
 use Rattle.stash_format.proofs.Rows.{Everywhere, Everywhere-empty, Everywhere-insert, Everywhere-entries, len-insert-le}
-use Rattle.secret_stash.specs.declared.fault.StashFault.{StashFault}
 use Rattle.secret_stash.specs.Faults.{told_record}
 use Rattle.secret_stash.specs.Keys.{payload_extra, payload_or_fault, opened_sealed}
 use Rattle.secret_stash.specs.Edits.{is_live, has_edition, live_resets}
@@ -112,6 +110,6 @@ opens_again main account iv plain payload read =
     ap payload_or_fault (opened_by_tag main iv (payload_extra account) sealed.text sealed.tag plain refl (sym (decrypted-encrypted 8 14 main iv plain)))
     ∙ ap (or_fault told_record) read
 
--- and is small
-pub small_again : (main account iv plain : List ℕ) → length plain ≤ 945 → length (sealed_under main iv (payload_extra account) plain).text < 2 ^ 16
-small_again main account iv plain few = omega (arith, length-encrypted 8 14 main iv plain)
+-- and has at most 945 bytes
+pub small_again : (main account iv plain : List ℕ) → length plain ≤ most_payload → length (sealed_under main iv (payload_extra account) plain).text ≤ most_payload
+small_again main account iv plain few = omega (arith, few, length-encrypted 8 14 main iv plain)

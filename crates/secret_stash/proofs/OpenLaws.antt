@@ -1,18 +1,16 @@
 -- What blocks open to after a change, and what their associated data tells.
-use Rattle.std.proofs.Common.{◌≡◌, ℕ, ◌<◌, ◌^◌, Bool, true, false, cond, List, [], ◌∷◌, ◌++◌, Option, Some, None, Result, Ok, Err, refl, sym, ap, ◌∙◌, append_assoc, drop}
-use Rattle.std.specs.Prelude.{IsTrue, codes}
+use Rattle.std.proofs.Common.{◌≡◌, ℕ, ◌<◌, ◌^◌, true, false, cond, List, [], ◌∷◌, ◌++◌, Some, None, Ok, Err, refl, sym, ap, ◌∙◌, append_assoc, drop}
+use Rattle.std.specs.Prelude.{IsTrue}
 use Rattle.std.specs.Int.{w64, to_be_bytes, from_be_bytes}
 use Rattle.std.specs.Ordering.{eq_by_cmp, is_eq}
-use Rattle.std.specs.declared.cmp.Ordering.{Ordering}
-use Rattle.std.specs.declared.cmp.Ordering.TheVariants.{Less, Equal, Greater}
 use Rattle.std.specs.Cmp.{tied_itself}
 use Rattle.std.specs.Cmp.Lexicographic.{nat_list_cmp_total}
-use Rattle.std.specs.FinMap.{get, insert, remove, get-insert, get-remove}
+use Rattle.std.specs.FinMap.{get, get-insert, get-remove}
 use Rattle.std.proofs.lemmas.Bool.{and_parts, false_from_ne_true}
 use Rattle.std.proofs.lemmas.Nat.{from_be_bytes-to_be_bytes_8}
 use Rattle.gcm_seal.proofs.GcmLemmas.{decrypted-encrypted}
 use Rattle.home_names.specs.Names.{is_account_name}
-use Rattle.record_fields.specs.Names.{is_factor_label}
+use Rattle.home_names.specs.Names.{is_factor_label}
 use Rattle.record_fields.proofs.ZeroByte.{split_at_zero}
 use Rattle.sealed_text.proofs.OpeningLemmas.{opened_by_tag}
 use Rattle.stash_format.specs.declared.block.Block.{Block}

@@ -1,5 +1,5 @@
 -- How a stash's contents are told apart: as pairs of their parts.
-use Rattle.std.specs.Prelude.{◌≡◌, ℕ, List, Option, refl, if◌then◌else◌, ◌==◌}
+use Rattle.std.specs.Prelude.{◌≡◌, ℕ, List, Option, refl}
 use Rattle.std.specs.Coded.{Coded, code_by, coded×, coded_ℕ, coded_list, coded_option}
 use Rattle.std.specs.FinMap.{code}
 use Rattle.sealed_text.specs.declared.sealed.Sealed.{Sealed}

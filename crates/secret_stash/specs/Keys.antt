@@ -1,5 +1,5 @@
 -- What a stash opens to.
-use Rattle.std.specs.Prelude.{ℕ, List, [], ◌∷◌, ◌++◌, codes, drop, Option, Some, None, Result, Ok, Err}
+use Rattle.std.specs.Prelude.{ℕ, List, ◌++◌, codes, drop, Option, Some, None, Result, Ok, Err}
 use Rattle.std.specs.FinMap.{get}
 use Rattle.hmac_sha.specs.Hmac.{hmac}
 use Rattle.gcm_seal.specs.Gcm.{encrypted, tag_of}
@@ -9,7 +9,6 @@ use Rattle.stash_format.specs.declared.block.Block.{Block}
 use Rattle.stash_format.specs.declared.block.Form.TheVariants.{Bound}
 use Rattle.stash_format.specs.declared.contents.Contents.{Contents}
 use Rattle.stash_format.specs.declared.payload.Payload.{Payload}
-use Rattle.stash_format.specs.declared.fault.RecordFault.{RecordFault}
 use Rattle.stash_format.specs.Forms.{extra_by, block_extra, main_of}
 use Rattle.stash_format.specs.Payloads.{payload_read}
 use Rattle.ct_bytes.specs.Reading.{or_fault}

@@ -2,7 +2,7 @@
 
 ghost use Rattle.std.specs.Prelude.{◌≡◌, ℕ, ◌<◌, ◌^◌, List, IsTrue, Ok, Err};
 ghost use Rattle.home_names.specs.Names.{is_account_name};
-ghost use Rattle.record_fields.specs.Names.{is_factor_label};
+ghost use Rattle.home_names.specs.Names.{is_factor_label};
 ghost use Rattle.stash_format.specs.declared.block.Block.{Block};
 ghost use Rattle.stash_format.specs.declared.block.Form.TheVariants.{Bound};
 ghost use Rattle.stash_format.specs.declared.contents.Contents.{Contents};

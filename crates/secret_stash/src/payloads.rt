@@ -5,6 +5,7 @@ ghost use Rattle.std.specs.FinMap.{len};
 ghost use Rattle.stash_format.specs.Kept.{HasRows};
 ghost use Rattle.sealed_text.specs.Sealing.{sealed_under};
 ghost use Rattle.stash_format.specs.Spelling.{payload_bytes};
+ghost use Rattle.stash_format.specs.Sizes.{most_payload};
 ghost use Rattle.secret_stash.specs.Faults.{Gives};
 ghost use Rattle.secret_stash.specs.Keys.{opened_sealed, payload_or_fault, payload_extra};
 ghost use Rattle.secret_stash.specs.Edits.{is_live, live_resets};
@@ -78,7 +79,7 @@ pub(crate) fn seal_payload(
         (payload_bytes payload.now.vault (live_resets blocks.now payload.now.resets))) }
     ensures opens { IfOk result (λ sealed. opened_sealed main.now account.now sealed
         ≡ Ok (record { vault = payload.now.vault; resets = live_resets blocks.now payload.now.resets })) }
-    ensures small { IfOk result (λ sealed. length sealed.text < 2 ^ 16) }
+    ensures small { IfOk result (λ sealed. length sealed.text ≤ most_payload) }
 {
     let live = live_resets(alloc, blocks, &payload.resets)?;
     let plain = spell_payload(alloc, &payload.vault, &live)?;

@@ -1,13 +1,14 @@
 //! The stash of a home.
 
-ghost use Rattle.std.specs.Prelude.{◌≡◌, ℕ, ◌<◌, ◌≤◌, List, length, slice_get, slice_index, IsTrue, IsSome, IfOk, IfSome, IfErr, OnOk, OnErr, IsOkUnless, is_some, Ok, Some, None};
+ghost use Rattle.std.specs.Prelude.{◌≡◌, ℕ, ◌+◌, ◌<◌, ◌≤◌, List, length, slice_get, slice_index, IsTrue, IsSome, IfOk, IfSome, IfErr, OnOk, OnErr, IsOkUnless, is_some, Ok, Some, None};
 ghost use Rattle.std.specs.FinMap as map;
 ghost use Rattle.home_names.specs.Names.{is_account_name};
-ghost use Rattle.record_fields.specs.Names.{is_factor_label};
+ghost use Rattle.home_names.specs.Names.{is_factor_label};
 ghost use Rattle.stash_format.specs.Forms.{form_number};
 ghost use Rattle.stash_format.specs.Record.{stash_read, stash_at};
 ghost use Rattle.stash_format.specs.Kept.{HasRows, HasBoth};
 ghost use Rattle.stash_format.specs.declared.block.Block.{Block as BlockSeen};
+ghost use Rattle.stash_format.specs.Sizes.{payload_size, most_beside_payload, most_payload};
 ghost use Rattle.secret_stash.specs.Faults.{Gives, Refuses};
 ghost use Rattle.secret_stash.specs.Keys.{opened_block, opened_payload, new_block};
 ghost use Rattle.secret_stash.specs.Edits.{new_stash, with_block, without_block, found_block, live_resets, with_payload};
@@ -72,11 +73,13 @@ impl Stash {
         Ok(Stash { alloc, contents })
     }
 
-    /// The record of the stash, of version 2. The only fault is `NoMemory`.
+    /// The record of the stash, of version 2: at most 2,826 bytes besides its payload's text. The only
+    /// fault is `NoMemory`.
     pub fn write(&self) -> Result<Blob, StashFault>
         requires both { HasBoth self.now }
         ensures read { IfOk result (λ bytes. stash_at bytes ≡ Some self.now) }
         ensures version { IfOk result (λ bytes. slice_index bytes 0 ≡ 2) }
+        ensures size { IfOk result (λ bytes. length bytes ≤ most_beside_payload + payload_size self.now) }
         ensures fault { IsOkUnless result StashFault.NoMemory }
     {
         Ok(spell_contents(self.alloc, &self.contents)?)
@@ -125,6 +128,16 @@ impl Stash {
         ensures value { result ≡ is_some self.now.payload }
     {
         self.contents.payload.is_some()
+    }
+
+    /// The number of bytes of the payload's encrypted text, and 0 where there is no payload.
+    pub fn payload_size(&self) -> usize
+        ensures value { result ≡ payload_size self.now }
+    {
+        match &self.contents.payload {
+            Some(sealed) => sealed.text.as_slice().len(),
+            None => 0,
+        }
     }
 
     /// The number of blocks, at most 32.
@@ -198,7 +211,8 @@ impl Stash {
     }
 
     /// Seals a payload under the main key. Reset secrets that no block names by label and edition are
-    /// left out. No two payloads may be sealed under one key and IV. The only fault is `NoMemory`.
+    /// left out, so its text has at most 945 bytes. No two payloads may be sealed under one key and IV.
+    /// The only fault is `NoMemory`.
     pub fn set_payload(
         &mut self,
         main: &[u8; 32],
@@ -209,6 +223,7 @@ impl Stash {
         ensures ok { OnOk result (self.new ≡ with_payload self.old main.now payload.now iv) }
         ensures opens { OnOk result (opened_payload self.new main.now
             ≡ Ok (record { vault = payload.now.vault; resets = live_resets self.old.blocks payload.now.resets })) }
+        ensures size { OnOk result (payload_size self.new ≤ most_payload) }
         ensures err { OnErr result (self.new ≡ self.old) }
         ensures fault { IsOkUnless result StashFault.NoMemory }
     {

@@ -4,3 +4,4 @@ pub mod Rising
 pub mod ReadAgain
 pub mod StashAgain
 pub mod Rows
+pub mod SizeLemmas

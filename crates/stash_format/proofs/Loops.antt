@@ -1,5 +1,5 @@
 -- Reading row after row, as a loop does.
-use Rattle.std.proofs.Common.{◌≡◌, ℕ, suc, ◌-◌, ◌+◌, ◌≤◌, ◌<◌, List, Result, Ok, Err, refl, sym, ◌∙◌, arith}
+use Rattle.std.proofs.Common.{◌≡◌, ℕ, suc, ◌-◌, ◌+◌, ◌≤◌, ◌<◌, List, Result, Ok, refl, sym, ◌∙◌, arith}
 use Rattle.ct_bytes.specs.Reading.{Unread, ◌>>=◌}
 use Rattle.stash_format.specs.declared.fault.RecordFault.{RecordFault}
 use Rattle.stash_format.specs.declared.fault.RecordFault.TheVariants.{BadStash, NoMemory}

@@ -1,31 +1,29 @@
 -- What a record was written with is read from it.
-use Rattle.std.proofs.Common.{◌≡◌, ℕ, zero, suc, ◌+◌, ◌<◌, ◌≤◌, ◌^◌, Bool, true, false, List, [], ◌∷◌, ◌++◌, length, Option, Some, None, Result, Ok, Err, refl, sym, ap, subst, ◌∙◌, append_assoc, arith}
-use Rattle.std.specs.Prelude.{nat_le, nat_lt, ◌==◌, ◌&&◌, ◌||◌, IsTrue}
+use Rattle.std.proofs.Common.{◌≡◌, ℕ, suc, ◌+◌, ◌<◌, ◌≤◌, ◌^◌, true, List, [], ◌∷◌, ◌++◌, length, Ok, refl, ap, ◌∙◌, append_assoc}
+use Rattle.std.specs.Prelude.{nat_le, nat_lt}
 use Rattle.std.specs.Int.{w16, w64, to_be_bytes}
 use Rattle.std.specs.List.{flat_map, AllByRecursion}
-use Rattle.std.specs.FinMap.{FinMap, empty, entries, insert, is_sorted}
+use Rattle.std.specs.FinMap.{insert}
 use Rattle.std.specs.Ordering.{is_lt}
-use Rattle.std.specs.FinMap.Entries.{below_all}
-use Rattle.std.proofs.lemmas.Bool.{and_parts, and_from, le-leb, lt-ltb, leb-true}
+use Rattle.std.proofs.lemmas.Bool.{and_parts, and_from, le-leb, lt-ltb}
 use Rattle.std.proofs.lemmas.List.Concat.{flat_map-cons}
 use Rattle.home_names.specs.Names.{is_account_name}
 use Rattle.ct_bytes.specs.Fields.{field8}
 use Rattle.ct_bytes.specs.Reading.{Unread}
-use Rattle.ct_bytes.proofs.ReadLemmas.{u8_at-front, u16_at-front, u64_at-front, bytes_at-front, end_at-none}
-use Rattle.record_fields.specs.Names.{is_factor_label}
+use Rattle.ct_bytes.proofs.ReadLemmas.{u8_at-front, u16_at-front, u64_at-front, bytes_at-front}
 use Rattle.record_fields.proofs.NameLemmas.{account_at-front, label_at-front}
 use Rattle.sealed_text.specs.declared.sealed.Sealed.{Sealed}
 use Rattle.stash_format.specs.declared.block.Form.{Form}
 use Rattle.stash_format.specs.declared.block.Form.TheVariants.{Plain, Bound}
 use Rattle.stash_format.specs.declared.block.Block.{Block}
 use Rattle.stash_format.specs.Forms.{form_number}
-use Rattle.stash_format.specs.Fields.{version_at, next_at, state_at, head_at, Head, block_count_at, edition_at, form_at, block_at}
+use Rattle.stash_format.specs.Fields.{version_at, next_at, state_at, head_at, edition_at, form_at, block_at}
 use Rattle.stash_format.specs.Blocks.{Blocks, row_at, blocks_at}
 use Rattle.stash_format.specs.Held.{sealed_at}
 use Rattle.stash_format.specs.Spelling.{block_bytes, row_bytes, sealed_bytes}
 use Rattle.stash_format.specs.Spelled.{IsRow, HasBlockSizes, HasSealedSizes}
 use Rattle.stash_format.specs.Live.{inserted_all}
-use Rattle.stash_format.proofs.Rising.{order, rising, rising-sorted, inserted_all-entries}
+use Rattle.stash_format.proofs.Rising.{order, rising}
 
 abbrev pub unread : ℕ → List ℕ → Unread
 unread place left = record { place = place; left = left }

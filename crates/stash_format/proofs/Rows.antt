@@ -1,6 +1,6 @@
 -- What is true of each block of a map, label by label and row by row.
-use Rattle.std.proofs.Common.{◌≡◌, ℕ, zero, suc, ◌+◌, ◌<◌, ◌≤◌, Bool, true, false, cond, List, [], ◌∷◌, length, Option, Some, None, Result, Ok, Err, refl, sym, ap, subst, ◌∙◌, arith}
-use Rattle.std.specs.Prelude.{IsTrue, IfSome, All, ◌&&◌, nat_lt, is_some}
+use Rattle.std.proofs.Common.{◌≡◌, ℕ, zero, suc, ◌+◌, ◌<◌, ◌≤◌, true, false, cond, List, [], ◌∷◌, Option, Some, None, Result, Ok, refl, sym, ap, subst, ◌∙◌, arith}
+use Rattle.std.specs.Prelude.{IsTrue, IfSome, All, nat_lt}
 use Rattle.std.specs.List.{AllByRecursion}
 use Rattle.std.specs.Ordering.{eq_by_cmp, is_eq}
 use Rattle.std.specs.declared.cmp.Ordering.{Ordering}
@@ -12,9 +12,10 @@ use Rattle.std.specs.FinMap.Entries.{below_all}
 use Rattle.std.proofs.lemmas.Bool.{and_parts, ltb-true}
 use Rattle.std.proofs.lemmas.List.Elements.{All-from_recursion}
 use Rattle.name_map.proofs.Maps.{IsRows-entries}
-use Rattle.ct_bytes.specs.Reading.{Unread, field8_at, u64_at, rule, or_fault, ◌>>=◌, ◌>>◌}
+use Rattle.ct_bytes.specs.Reading.{Unread, field8_at, u64_at, rule, ◌>>=◌, ◌>>◌}
 use Rattle.ct_bytes.proofs.StepLemmas.{bind-ok, rule_then-ok, step-ok}
-use Rattle.record_fields.specs.Names.{is_factor_label, label_at, bad_here}
+use Rattle.home_names.specs.Names.{is_factor_label}
+use Rattle.record_fields.specs.Names.{label_at, bad_here}
 use Rattle.stash_format.specs.declared.fault.RecordFault.{RecordFault}
 use Rattle.stash_format.specs.declared.fault.RecordFault.TheVariants.{BadStash}
 use Rattle.stash_format.specs.declared.block.Block.{Block}

@@ -1,34 +1,32 @@
 -- A whole record, and a whole payload.
-use Rattle.std.proofs.Common.{◌≡◌, ℕ, zero, suc, ◌+◌, ◌*◌, ◌<◌, ◌≤◌, ◌^◌, Bool, true, false, List, [], ◌∷◌, ◌++◌, length, Option, Some, None, Result, Ok, Err, refl, sym, ap, subst, ◌∙◌, append_assoc, arith}
-use Rattle.std.specs.Prelude.{nat_le, nat_lt, ◌==◌, ◌&&◌, IsTrue, All, codes}
+use Rattle.std.proofs.Common.{◌≡◌, ℕ, suc, ◌+◌, ◌<◌, ◌≤◌, ◌^◌, true, List, [], ◌∷◌, ◌++◌, length, Some, None, Ok, refl, sym, ap, subst, ◌∙◌, append_assoc}
+use Rattle.std.specs.Prelude.{nat_le, IsTrue, All}
 use Rattle.std.specs.Int.{w64, to_be_bytes}
 use Rattle.std.specs.List.{flat_map, AllByRecursion}
 use Rattle.std.specs.Ordering.{is_lt}
-use Rattle.std.specs.FinMap.{FinMap, empty, entries, insert, is_sorted}
+use Rattle.std.specs.FinMap.{FinMap, empty, entries, insert}
 use Rattle.std.specs.FinMap.Entries.{below_all}
-use Rattle.std.proofs.lemmas.Bool.{and_parts, and_from, le-leb, lt-ltb, leb-true}
-use Rattle.std.proofs.lemmas.List.{append-nil, length-append}
+use Rattle.std.proofs.lemmas.Bool.{and_parts, and_from, le-leb}
+use Rattle.std.proofs.lemmas.List.{append-nil}
 use Rattle.std.proofs.lemmas.List.Elements.{recursion_from_All}
 use Rattle.std.proofs.lemmas.List.Concat.{flat_map-cons}
 use Rattle.name_map.proofs.Maps.{IsRows-entries}
 use Rattle.ct_bytes.specs.Fields.{field8}
-use Rattle.ct_bytes.specs.Reading.{Unread}
 use Rattle.ct_bytes.proofs.ReadLemmas.{u8_at-front, u64_at-front, bytes_at-front, end_at-none}
-use Rattle.record_fields.specs.Names.{is_factor_label}
+use Rattle.home_names.specs.Names.{is_factor_label}
 use Rattle.record_fields.proofs.NameLemmas.{label_at-front}
 use Rattle.sealed_text.specs.declared.sealed.Sealed.{Sealed}
 use Rattle.stash_format.specs.declared.block.Block.{Block}
 use Rattle.stash_format.specs.declared.reset.Reset.{Reset}
 use Rattle.stash_format.specs.declared.contents.Contents.{Contents}
-use Rattle.stash_format.specs.declared.payload.Payload.{Payload}
 use Rattle.stash_format.specs.Fields.{block_count_at}
 use Rattle.stash_format.specs.Blocks.{Blocks}
 use Rattle.stash_format.specs.Held.{held_at}
 use Rattle.stash_format.specs.Record.{stash_read}
 use Rattle.stash_format.specs.Resets.{Resets, reset_count_at, reset_row_at, resets_at}
 use Rattle.stash_format.specs.Payloads.{payload_read}
-use Rattle.stash_format.specs.Spelling.{row_bytes, sealed_bytes, held_bytes, stash_bytes, reset_bytes, payload_bytes}
-use Rattle.stash_format.specs.Spelled.{IsRow, HasSpelling, HasBlockSizes, HasSealedSizes, HasSizes, HasResetSizes, HasResetSpelling}
+use Rattle.stash_format.specs.Spelling.{row_bytes, sealed_bytes, stash_bytes, reset_bytes, payload_bytes}
+use Rattle.stash_format.specs.Spelled.{IsRow, HasSpelling, HasBlockSizes, HasSizes, HasResetSizes, HasResetSpelling}
 use Rattle.stash_format.specs.Live.{inserted_all}
 use Rattle.stash_format.proofs.Rising.{order, rising, rising-sorted, inserted_all-entries, empty_of_none}
 use Rattle.stash_format.proofs.ReadAgain.{unread, blocks_at-front, sealed_at-front, head_at-front}
@@ -155,32 +153,3 @@ payload_again vault resets size is sizes =
       end_at-none read.0,
       whole,
     ) refl
-
--- a label and its reset secret have at most 57 bytes
-resets_size : (rows : List (List ℕ × Reset)) → AllByRecursion (λ (row : List ℕ × Reset). IsTrue (is_factor_label row.0)) rows → AllByRecursion (λ (row : List ℕ × Reset). HasResetSizes row.1) rows
-    → length (flat_map reset_bytes rows) ≤ 57 * length rows
-resets_size [] are sizes = omega arith
-resets_size (row ∷ rows) are sizes =
-    let edition : List ℕ = to_be_bytes w64 row.1.edition in
-    let short : length row.0 ≤ 16 = leb-true _ _ (and_parts _ _ (and_parts _ _ are.0).0).1 in
-    let eight : length edition ≡ 8 = refl in
-    let rest = resets_size rows are.1 sizes.1 in
-    let whole : length (flat_map reset_bytes (row ∷ rows)) ≡ length (reset_bytes row) + length (flat_map reset_bytes rows) =
-    ap length (flat_map-cons reset_bytes row rows) ∙ length-append (reset_bytes row) (flat_map reset_bytes rows) in
-    let outer : length (reset_bytes row) ≡ length (field8 row.0) + length (edition ++ row.1.secret) = length-append (field8 row.0) (edition ++ row.1.secret) in
-    let inner = length-append edition row.1.secret in
-    let named : length (field8 row.0) ≡ suc (length row.0) = refl in
-    let secret = sizes.0.secret in
-    omega (arith, whole, outer, inner, named, short, eight, secret, rest)
-
--- a payload has at most 945 bytes
-pub payload_size : (vault : List ℕ) (resets : Resets) → length vault ≡ 32 → HasResetSpelling resets → All (λ (row : List ℕ × Reset). HasResetSizes row.1) (entries resets)
-    → length (payload_bytes vault resets) ≤ 945
-unfolding payload_bytes
-payload_size vault resets size is sizes =
-    let rows : List (List ℕ × Reset) = entries resets in
-    let are = resets_size rows (recursion_from_All (λ (row : List ℕ × Reset). IsTrue (is_factor_label row.0)) rows is.labels)
-    (recursion_from_All (λ (row : List ℕ × Reset). HasResetSizes row.1) rows sizes) in
-    let whole = length-append vault (length rows ∷ flat_map reset_bytes rows) in
-    let few = is.few in
-    omega (arith, whole, are, few, size)

@@ -1,5 +1,5 @@
 -- The blocks of a stash's record, in strictly rising order of their labels.
-use Rattle.std.specs.Prelude.{ℕ, zero, suc, Bool, List, Result, Ok, Err}
+use Rattle.std.specs.Prelude.{ℕ, zero, suc, Bool, List, Result, Ok}
 use Rattle.std.specs.Ordering.{nat_cmp, is_lt}
 use Rattle.std.specs.Cmp.Lexicographic.{slice_cmp}
 use Rattle.std.specs.FinMap.{FinMap, insert}

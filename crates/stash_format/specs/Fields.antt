@@ -1,5 +1,5 @@
 -- The fields of a stash's record, each read behind the one before, with the first place that breaks a rule.
-use Rattle.std.specs.Prelude.{ℕ, Bool, ◌==◌, ◌&&◌, ◌||◌, nat_le, nat_lt, List, Result, Ok, Err, if◌then◌else◌}
+use Rattle.std.specs.Prelude.{ℕ, Bool, ◌==◌, ◌&&◌, ◌||◌, nat_le, nat_lt, List, Result, Ok, if◌then◌else◌}
 use Rattle.ct_bytes.specs.declared.fault.ByteFault.{ByteFault}
 use Rattle.ct_bytes.specs.Reading.{Unread, bytes_at, u8_at, u64_at, rule, or_fault, ◌>>=◌, ◌>>◌}
 use Rattle.record_fields.specs.Names.{account_at}

@@ -1,5 +1,5 @@
 -- What stands behind the head of a stash's record.
-use Rattle.std.specs.Prelude.{ℕ, [], ◌==◌, Option, Some, None, Result, Ok, Err, if◌then◌else◌}
+use Rattle.std.specs.Prelude.{[], ◌==◌, Option, Some, None, Result, Ok, if◌then◌else◌}
 use Rattle.std.specs.FinMap.{empty}
 use Rattle.ct_bytes.specs.Reading.{Unread, u16_at, or_fault, ◌>>=◌}
 use Rattle.sealed_text.specs.declared.sealed.Sealed.{Sealed}

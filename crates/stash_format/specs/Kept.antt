@@ -2,7 +2,7 @@
 use Rattle.std.specs.Prelude.{◌≡◌, ℕ, ◌<◌, ◌≤◌, ◌^◌, List, length, None, IsTrue, IsSome, IfSome}
 use Rattle.std.specs.FinMap.{get, len, empty}
 use Rattle.home_names.specs.Names.{is_account_name}
-use Rattle.record_fields.specs.Names.{is_factor_label}
+use Rattle.home_names.specs.Names.{is_factor_label}
 use Rattle.stash_format.specs.declared.contents.Contents.{Contents}
 use Rattle.stash_format.specs.Blocks.{Blocks}
 

@@ -10,3 +10,4 @@ pub mod Spelling
 pub mod Spelled
 pub mod Kept
 pub mod Live
+pub mod Sizes

@@ -1,5 +1,5 @@
 -- The opened payload of a stash.
-use Rattle.std.specs.Prelude.{ℕ, List, [], Option, Result, Ok, Err}
+use Rattle.std.specs.Prelude.{ℕ, List, [], Option, Result, Ok}
 use Rattle.std.specs.Result.{result_ok}
 use Rattle.std.specs.FinMap.{empty}
 use Rattle.ct_bytes.specs.Reading.{start, end_at, or_fault, ◌>>=◌, ◌>>◌}

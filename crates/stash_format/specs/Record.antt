@@ -1,5 +1,5 @@
 -- A stash's record, of either version.
-use Rattle.std.specs.Prelude.{ℕ, List, Option, Result, Ok, Err}
+use Rattle.std.specs.Prelude.{ℕ, List, Option, Result, Ok}
 use Rattle.std.specs.Result.{result_ok}
 use Rattle.ct_bytes.specs.Reading.{start, end_at, or_fault, ◌>>=◌, ◌>>◌}
 use Rattle.stash_format.specs.declared.fault.RecordFault.{RecordFault}

@@ -1,5 +1,5 @@
 -- The reset secrets of a payload, in strictly rising order of their labels.
-use Rattle.std.specs.Prelude.{ℕ, zero, suc, nat_le, List, Result, Ok, Err}
+use Rattle.std.specs.Prelude.{ℕ, zero, suc, nat_le, List, Result, Ok}
 use Rattle.std.specs.Ordering.{nat_cmp}
 use Rattle.std.specs.Cmp.Lexicographic.{slice_cmp}
 use Rattle.std.specs.FinMap.{FinMap, insert}

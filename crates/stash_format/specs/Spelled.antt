@@ -1,8 +1,8 @@
 -- What has a spelling that is read again.
-use Rattle.std.specs.Prelude.{◌≡◌, ℕ, ◌<◌, ◌≤◌, ◌^◌, List, [], length, All, Option, None, IsTrue, IsSome, IfSome}
+use Rattle.std.specs.Prelude.{◌≡◌, ℕ, ◌<◌, ◌≤◌, ◌^◌, List, [], length, All, None, IsTrue, IsSome, IfSome}
 use Rattle.std.specs.FinMap.{entries}
 use Rattle.home_names.specs.Names.{is_account_name}
-use Rattle.record_fields.specs.Names.{is_factor_label}
+use Rattle.home_names.specs.Names.{is_factor_label}
 use Rattle.sealed_text.specs.declared.sealed.Sealed.{Sealed}
 use Rattle.stash_format.specs.declared.block.Block.{Block}
 use Rattle.stash_format.specs.declared.reset.Reset.{Reset}

@@ -1,17 +1,18 @@
 //! Writing a record and a payload.
 
-ghost use Rattle.std.specs.Prelude.{◌≡◌, ℕ, List, ◌++◌, ◌<◌, ◌≤◌, ◌^◌, length, All, IsTrue, IsSome, IfSome, IfOk, OnOk, Ok};
+ghost use Rattle.std.specs.Prelude.{◌≡◌, ℕ, List, ◌++◌, ◌+◌, ◌<◌, ◌≤◌, ◌^◌, length, All, IsTrue, IsSome, IfSome, IfOk, OnOk, Ok};
 ghost use Rattle.std.specs.Int.{w64, to_be_bytes};
 ghost use Rattle.std.specs.List.{flat_map};
 ghost use Rattle.ct_bytes.specs.Fields.{field8};
 ghost use Rattle.std.specs.FinMap.{entries};
-ghost use Rattle.record_fields.specs.Names.{is_factor_label};
+ghost use Rattle.home_names.specs.Names.{is_factor_label};
 ghost use Rattle.stash_format.specs.declared.block.Block.{Block as BlockSeen};
 ghost use Rattle.stash_format.specs.declared.reset.Reset.{Reset as ResetSeen};
 ghost use Rattle.stash_format.specs.Forms.{form_number};
 ghost use Rattle.stash_format.specs.Record.{stash_read};
 ghost use Rattle.stash_format.specs.Payloads.{payload_read};
 ghost use Rattle.stash_format.specs.Spelling.{block_bytes, row_bytes, sealed_bytes, held_bytes, stash_bytes, reset_bytes, payload_bytes};
+ghost use Rattle.stash_format.specs.Sizes.{payload_size, most_beside_payload, most_payload};
 ghost use Rattle.stash_format.specs.Spelled.{HasSpelling, HasBlockSizes, HasSealedSizes, HasSizes, HasResetSizes, HasResetSpelling};
 
 use crate::block::{Block, Form};
@@ -144,13 +145,16 @@ fn written_contents(alloc: Global, contents: &Contents) -> Result<Blob, NoMemory
 }
 
 /// The record of these contents, of version 2 (docs/FORMATS.md, "Stash record").
-#[tactic(auto, using(crate::proofs::StashAgain::stash_again))]
+#[tactic(auto, using(crate::proofs::StashAgain::stash_again, crate::proofs::SizeLemmas::stash_within))]
 pub fn spell_contents(alloc: Global, contents: &Contents) -> Result<Blob, NoMemory>
     requires { HasSpelling contents.now }
     ensures value { IfOk result (λ bytes. bytes ≡ stash_bytes contents.now) }
 
     // What is written is read again.
     ensures read { IfOk result (λ bytes. stash_read bytes ≡ Ok contents.now) }
+
+    // At most 2,826 bytes besides the payload's text.
+    ensures size { IfOk result (λ bytes. length bytes ≤ most_beside_payload + payload_size contents.now) }
 {
     written_contents(alloc, contents)
 }
@@ -175,7 +179,7 @@ fn written_payload(
 }
 
 /// The bytes of a payload, before they are sealed (docs/FORMATS.md, "Payload of a stash").
-#[tactic(auto, using(crate::proofs::StashAgain::payload_again, crate::proofs::StashAgain::payload_size))]
+#[tactic(auto, using(crate::proofs::StashAgain::payload_again, crate::proofs::SizeLemmas::payload_within))]
 pub fn spell_payload(
     alloc: Global,
     vault: &[u8; 32],
@@ -186,7 +190,7 @@ pub fn spell_payload(
 
     // What is written is read again.
     ensures read { IfOk result (λ bytes. payload_read bytes ≡ Ok (record { vault = vault.now; resets = resets.now })) }
-    ensures size { IfOk result (λ bytes. length bytes ≤ 945) }
+    ensures size { IfOk result (λ bytes. length bytes ≤ most_payload) }
 {
     written_payload(alloc, vault, resets)
 }

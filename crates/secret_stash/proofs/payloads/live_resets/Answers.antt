@@ -1,6 +1,5 @@
-use Rattle.std.proofs.Common.{◌≡◌, ℕ, List, sym, ap, ◌∙◌}
+use Rattle.std.proofs.Common.{ℕ, List, sym, ap, ◌∙◌}
 use Rattle.std.specs.FinMap.{empty, insert}
-use Rattle.stash_format.specs.declared.reset.Reset.{Reset}
 use Rattle.stash_format.specs.Resets.{Resets}
 use Rattle.secret_stash.specs.Edits.{is_live}
 use Rattle.secret_stash.proofs.LiveLemmas.{kept_row, left_row}

@@ -1,4 +1,4 @@
-use Rattle.std.proofs.Common.{◌≡◌, ℕ, List, take}
+use Rattle.std.proofs.Common.{◌≡◌, take}
 use Rattle.std.specs.Prelude.{filter}
 use Rattle.std.specs.FinMap.{empty, entries}
 use Rattle.stash_format.specs.Live.{inserted_all}

@@ -1,5 +1,4 @@
-use Rattle.std.proofs.Common.{◌≡◌, ℕ, ◌<◌, List, sym, ap, subst, ◌∙◌, arith, None}
-use Rattle.std.specs.FinMap.{get, len}
+use Rattle.std.proofs.Common.{ap}
 use Rattle.stash_format.specs.declared.block.Block.{Block}
 use Rattle.secret_stash.proofs.KeptLemmas.{kept_added}
 use Rattle.secret_stash.proofs.stash.Stash.add_block.Goals as goal

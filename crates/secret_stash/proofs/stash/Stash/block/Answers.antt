@@ -1,8 +1,7 @@
-use Rattle.std.proofs.Common.{◌≡◌, ℕ, List, sym, ap, subst, ◌∙◌, ◌<◌, length, arith, refl, Some}
+use Rattle.std.proofs.Common.{◌≡◌, ℕ, List, sym, ap, ◌∙◌, ◌<◌, length, arith, refl, Some}
 use Rattle.std.specs.Prelude.{slice_get}
 use Rattle.std.proofs.lemmas.Option.{slice_get_read}
 use Rattle.stash_format.specs.declared.block.Block.{Block}
-use Rattle.stash_format.specs.Forms.{form_number}
 use Rattle.std.specs.FinMap.{entries, len, len-entries}
 use Rattle.stash_format.specs.declared.contents.Contents.{Contents}
 use Rattle.secret_stash.proofs.stash.Stash.block.Goals as goal

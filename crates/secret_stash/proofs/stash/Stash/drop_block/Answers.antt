@@ -1,5 +1,3 @@
-use Rattle.std.proofs.Common.{◌≡◌, ℕ, List, sym, ap, subst, ◌∙◌}
-use Rattle.stash_format.specs.Kept.{IsStash}
 use Rattle.secret_stash.proofs.KeptLemmas.{kept_without}
 use Rattle.secret_stash.proofs.stash.Stash.drop_block.Goals as goal
 

@@ -1,6 +1,5 @@
-use Rattle.std.proofs.Common.{◌≡◌, ℕ, List, sym, ap, subst, None}
+use Rattle.std.proofs.Common.{None}
 use Rattle.stash_format.specs.declared.contents.Contents.{Contents}
-use Rattle.stash_format.specs.Kept.{IsStash}
 use Rattle.secret_stash.proofs.KeptLemmas.{kept_new}
 use Rattle.secret_stash.proofs.stash.Stash.new.Goals as goal
 

@@ -1,4 +1,4 @@
-use Rattle.std.proofs.Common.{◌≡◌, ℕ, List, sym, ap, subst, ◌∙◌, get_or}
+use Rattle.std.proofs.Common.{ℕ, List, sym, ap, subst, get_or}
 use Rattle.stash_format.specs.Kept.{HasBoth}
 use Rattle.stash_format.specs.Spelling.{stash_bytes}
 use Rattle.stash_format.proofs.Rows.{spelling_of}
