@@ -1,2 +1,5 @@
+pub mod Escapes
 pub mod Pairs
 mod Reading
+pub mod Replying
+pub mod Tokens

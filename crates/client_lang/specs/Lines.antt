@@ -1,5 +1,5 @@
 -- Request lines: JSON objects, of which the fields of their op are read.
-use Rattle.std.specs.Prelude.{ℕ, nat_le, List, [], length, codes, Option, None, Some, Result, Ok, Err, is_some, if◌then◌else◌}
+use Rattle.std.specs.Prelude.{ℕ, nat_le, List, length, codes, Option, None, Some, Result, Ok, Err, is_some, if◌then◌else◌}
 use Rattle.std.specs.Str.{is_utf8}
 use Rattle.serde_json.specs.Data.{Data}
 use Rattle.serde_json.specs.Read.{read}

@@ -5,7 +5,7 @@ use Rattle.account_machine.specs.declared.answer.Answer.{Answer}
 use Rattle.account_machine.specs.declared.answer.Answer.TheVariants as answers
 use Rattle.account_machine.specs.declared.request.Turn.{Turn}
 use Rattle.account_machine.specs.declared.user.User.{User}
-use Rattle.account_machine.specs.declared.user.Era.{Era}
+use Rattle.pw_types.specs.declared.era.Era.{Era}
 use Rattle.account_machine.specs.Effect.{gives}
 use Rattle.account_machine.specs.Step.{outcome, Row, MayFail, Unsettles, Loses, HidesCounts, IsStandIn, Given, by_row, unsettles, loses, hides, stands_in}
 use Rattle.machine_step.specs.Done.{tail_in, IsDone}

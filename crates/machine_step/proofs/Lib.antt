@@ -4,3 +4,4 @@ pub mod Saying
 pub mod Tails
 pub mod Choosing
 pub mod Moments
+pub mod Single

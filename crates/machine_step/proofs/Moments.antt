@@ -1,10 +1,9 @@
 -- A step keeps an account's moments below 2^40.
-use Rattle.std.proofs.Common.{◌≡◌, ℕ, ◌+◌, ◌<◌, ◌≤◌, ◌^◌, Bool, true, false, cond, List, Option, Some, None, refl, ap, sym, ◌∙◌, subst, arith}
-use Rattle.std.specs.Prelude.{max, bytes_eq, option_and_then, unwrap_or, IfSome, MatchOption, ◌==◌}
+use Rattle.std.proofs.Common.{◌≡◌, ◌<◌, ◌^◌, Bool, true, false, cond, Option, Some, None, refl, ap, sym, ◌∙◌, subst, arith}
+use Rattle.std.specs.Prelude.{bytes_eq, option_and_then, unwrap_or, IfSome, MatchOption}
 use Rattle.std.specs.Ordering.{eq_by_cmp}
 use Rattle.std.specs.Cmp.Lexicographic.{nat_list_cmp_total}
-use Rattle.std.specs.FinMap.{FinMap, get, insert, remove, empty, get-insert, get-remove, get-empty, entries, len}
-use Rattle.pw_types.specs.declared.stamp.Stamp.{Stamp}
+use Rattle.std.specs.FinMap.{FinMap, get, insert, remove, empty, get-insert, get-remove, get-empty, entries}
 use Rattle.pw_types.specs.declared.delay.Readiness.{Readiness}
 use Rattle.pw_types.specs.declared.delay.Readiness.TheVariants as readiness
 use Rattle.account_machine.specs.declared.answer.Answer.{Answer}
@@ -24,10 +23,10 @@ use Rattle.account_machine.specs.declared.entry.Told.{Told}
 use Rattle.account_machine.specs.declared.entry.Told.TheVariants.{Settled, Before, After, Failed}
 use Rattle.account_machine.specs.declared.user.Durable.{Durable}
 use Rattle.account_machine.specs.declared.user.User.{User}
-use Rattle.account_machine.specs.declared.user.Era.{Era}
+use Rattle.pw_types.specs.declared.era.Era.{Era}
 use Rattle.account_machine.specs.Outline.{Bytes, session_at}
-use Rattle.account_machine.specs.Effect.{Outcome, gives, effect, turn_effect, tried, pin_tried, pin_compared, password_tried, readiness_now, right_password, right_pin, set_factor, cleared, missed, cleared_by, first_counted}
-use Rattle.account_machine.specs.Step.{outcome, outcome_by, refusal_now, Row, Unsettles, Loses, HidesCounts, StandsIn, Given, by_row, unsettles, loses, hides, stands_in, reload_of, reloaded, FailsToReload, Turned, Step}
+use Rattle.account_machine.specs.Effect.{Outcome, gives, effect, tried, pin_tried, readiness_now, right_password, right_pin, set_factor, cleared, missed, cleared_by, first_counted}
+use Rattle.account_machine.specs.Step.{outcome_by, refusal_now, Row, Given, by_row, unsettles, loses, hides, stands_in, reload_of, FailsToReload, Step}
 use Rattle.machine_step.specs.Timely.{AreTimely, IsTimely}
 use Rattle.name_map.proofs.RowLemmas.{order}
 use Rattle.machine_step.proofs.Tails.{after_given}

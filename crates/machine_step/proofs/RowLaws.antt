@@ -6,7 +6,7 @@ use Rattle.account_machine.specs.declared.answer.Answer.TheVariants as answers
 use Rattle.account_machine.specs.declared.answer.Refused.{Refused}
 use Rattle.account_machine.specs.declared.factor.Factor.{Factor}
 use Rattle.account_machine.specs.declared.factor.Kind.{Kind}
-use Rattle.account_machine.specs.declared.user.Era.{Era}
+use Rattle.pw_types.specs.declared.era.Era.{Era}
 use Rattle.account_machine.specs.declared.session.Session.{Session}
 use Rattle.account_machine.specs.declared.session.Token.{Token}
 use Rattle.account_machine.specs.declared.user.User.{User}

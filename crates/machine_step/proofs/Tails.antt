@@ -9,7 +9,7 @@ use Rattle.account_machine.specs.declared.request.Request.TheVariants.{Create, S
 use Rattle.account_machine.specs.declared.request.Turn.{Turn}
 use Rattle.account_machine.specs.declared.request.Turn.TheVariants.{Look, Act, Clear}
 use Rattle.account_machine.specs.declared.user.User.{User}
-use Rattle.account_machine.specs.declared.user.Era.{Era}
+use Rattle.pw_types.specs.declared.era.Era.{Era}
 use Rattle.account_machine.specs.Outline.{Bytes}
 use Rattle.account_machine.specs.Effect.{Outcome, gives, started, effect}
 use Rattle.account_machine.specs.Step.{outcome, outcome_by, refusal_now}

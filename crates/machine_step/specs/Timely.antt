@@ -5,7 +5,7 @@ use Rattle.std.specs.Cmp.Lexicographic.{slice_cmp}
 use Rattle.std.specs.FinMap.{FinMap, get}
 use Rattle.account_machine.specs.declared.factor.Factor.{Factor}
 use Rattle.account_machine.specs.declared.user.User.{User}
-use Rattle.account_machine.specs.declared.user.Era.{Era}
+use Rattle.pw_types.specs.declared.era.Era.{Era}
 
 -- the last wrong try of each factor was at such a moment
 abbrev pub AreTimely : FinMap (slice_cmp nat_cmp) Factor → Type 0

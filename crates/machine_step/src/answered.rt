@@ -9,9 +9,10 @@ ghost use Rattle.machine_step.specs.Timely.{IsTimely};
 
 use crate::fits::hides_counts;
 use crate::rows::perform;
-use account_machine::{Answer, Era, Refused, Request, Turn, User, names_tree, turn_refusal};
+use account_machine::{Answer, Refused, Request, Turn, User, names_tree, turn_refusal};
 use ct_bytes::NoMemory;
 use name_map::Copied;
+use pw_types::Era;
 use std::alloc::Global;
 
 fn is_same(said: Refused, refused: Refused) -> bool

@@ -9,5 +9,7 @@ mod machine;
 mod rows;
 
 pub use history::take_steps;
-pub use laws::{a_fresh_account_has_such_moments, steps_keep_moments};
+pub use laws::{
+    a_fresh_account_has_such_moments, an_entry_leads_to_one_account, steps_keep_moments,
+};
 pub use machine::step;

@@ -6,13 +6,11 @@ ghost use Rattle.account_machine.specs.Step.{reloaded, IsStandIn, FailsToReload,
 ghost use Rattle.machine_step.specs.Timely.{IsTimely};
 
 use crate::answered::{answered, is_stand_in};
-use account_machine::{Answer, Entry, Era, Told, User};
+use account_machine::{Answer, Entry, Told, User};
 use ct_bytes::NoMemory;
 use name_map::Copied;
+use pw_types::{Era, LAST_MOMENT};
 use std::alloc::Global;
-
-/// The first number that is no moment.
-const MOMENT_END: u64 = 1 << 40;
 
 // The user with which a turn at this moment begins.
 fn begun(user: &User, told: Told, moment: u64) -> Result<Option<User>, NoMemory>
@@ -55,7 +53,7 @@ pub fn step(alloc: Global, user: &mut User, era: Era, entry: &Entry) -> Result<b
     ensures same { IfOk result (λ yes. yes ≡ false → user.new ≡ user.old) }
     ensures err { OnErr result (user.new ≡ user.old) }
 {
-    if entry.given >= MOMENT_END || entry.moment != user.last.max(entry.given) {
+    if entry.given > LAST_MOMENT || entry.moment != user.last.max(entry.given) {
         return Ok(false);
     }
     let Some(start) = begun(user, entry.told, entry.moment)? else {

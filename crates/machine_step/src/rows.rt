@@ -17,12 +17,10 @@ use crate::fits::{
     is_bytes, is_clear, is_cleared, is_delayed, is_ends, is_factors, is_files, is_locked, is_ok,
     is_password, is_seen, is_session, is_wrong, tail_of,
 };
-use account_machine::{
-    Answer, Durable, Era, Factor, Intent, Kind, Request, Session, Token, Turn, User,
-};
+use account_machine::{Answer, Durable, Factor, Intent, Kind, Request, Session, Token, Turn, User};
 use ct_bytes::{Blob, NoMemory, Text};
 use name_map::Copied;
-use pw_types::{Readiness, Schedule, Stamp, limit_locks, ready};
+use pw_types::{Era, Readiness, Schedule, Stamp, limit_locks, ready};
 use std::alloc::Global;
 
 /// How long a new session lasts, and how long one at least lasts after a right secret, in seconds.

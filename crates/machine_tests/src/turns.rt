@@ -3,9 +3,10 @@
 ghost use Rattle.std.specs.Prelude.{OnOk};
 ghost use Rattle.machine_step.specs.Timely.{IsTimely};
 
-use account_machine::{Answer, Entry, Era, Intent, Kind, Request, Token, Told, Turn, User};
+use account_machine::{Answer, Entry, Intent, Kind, Request, Token, Told, Turn, User};
 use ct_bytes::{NoMemory, Text};
 use machine_step::{a_fresh_account_has_such_moments, step, steps_keep_moments};
+use pw_types::Era;
 use std::alloc::Global;
 use std::test;
 

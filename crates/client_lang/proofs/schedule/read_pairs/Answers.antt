@@ -1,4 +1,4 @@
-use Rattle.std.proofs.Common.{◌≡◌, ◌<◌, length, sym, ◌∙◌, arith}
+use Rattle.std.proofs.Common.{◌<◌, length, sym, ◌∙◌, arith}
 use Rattle.client_lang.proofs.Pairs.{With-step}
 use Rattle.client_lang.proofs.schedule.read_pairs.Goals as goal
 

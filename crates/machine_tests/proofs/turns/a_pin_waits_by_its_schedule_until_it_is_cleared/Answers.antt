@@ -1,6 +1,6 @@
 -- A fresh account's moments are below 2^40.
 use Rattle.std.proofs.Common.{arith, sym, subst}
-use Rattle.account_machine.specs.declared.user.Era.{Era}
+use Rattle.pw_types.specs.declared.era.Era.{Era}
 use Rattle.machine_step.specs.Timely.{IsTimely}
 use Rattle.machine_tests.proofs.turns.a_pin_waits_by_its_schedule_until_it_is_cleared.Goals as goal
 
