@@ -36,11 +36,11 @@ which q name = ⊎_elim (λ e. inl (same e)) (λ e. inr (λ s. apart s e)) (tied
     tied Equal = inl refl
     tied Greater = inr (λ e. cc e)
 
-get_content : (files : Files) (name : List ℕ) (content : Option (List ℕ)) → get (with_content files name content) name ≡ content
+pub get_content : (files : Files) (name : List ℕ) (content : Option (List ℕ)) → get (with_content files name content) name ≡ content
 get_content files name None = get-removed files name
 get_content files name (Some bytes) = get-inserted files name bytes
 
-get_others : (files : Files) (name : List ℕ) (content : Option (List ℕ)) (q : List ℕ) → q ≢ name → get (with_content files name content) q ≡ get files q
+pub get_others : (files : Files) (name : List ℕ) (content : Option (List ℕ)) (q : List ℕ) → q ≢ name → get (with_content files name content) q ≡ get files q
 get_others files name None q apart = get-remove_other files name q apart
 get_others files name (Some bytes) q apart = get-insert_other files name bytes q apart
 

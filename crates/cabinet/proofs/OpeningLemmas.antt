@@ -49,7 +49,7 @@ cause_on a b c P Q same to from h = subst (λ (n : ℕ). HasCause n c Q) same (r
 pub none_in : (q : List ℕ) → Contains [] q → ⊥
 none_in q h = absurd (omega (arith, h.1))
 
-only_one : (item q : List ℕ) → Contains (item ∷ []) q → item ≡ q
+pub only_one : (item q : List ℕ) → Contains (item ∷ []) q → item ≡ q
 only_one item q h = one h.0 h.1 h.2
   where
     one : (k : ℕ) → k < 1 → get_or (item ∷ []) k q ≡ q → item ≡ q

@@ -1,5 +1,6 @@
 pub mod Edits
 pub mod Names
+pub mod Named
 pub mod Held
 pub mod Faults
 pub mod Opening

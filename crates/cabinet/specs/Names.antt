@@ -1,10 +1,6 @@
 -- Names that are held, and then one more or one fewer.
-use Rattle.std.specs.Prelude.{ℕ, ◌+◌, ◌<◌, ◌⊎◌, List, [], ◌∷◌, ◌++◌, length, take, drop, Option, None, Some, Bool, if◌then◌else◌, IsTrue, bytes_eq}
-use Rattle.std.specs.List.{list_any, position}
-
-abbrev pub without_at : Option ℕ → List (List ℕ) → List (List ℕ)
-without_at None names = names
-without_at (Some at) names = take at names ++ drop (at + 1) names
+use Rattle.std.specs.Prelude.{ℕ, ◌<◌, ◌⊎◌, List, [], ◌∷◌, ◌++◌, length, filter, Option, None, Some, Result, Ok, Err, not, if◌then◌else◌, Bool, IsTrue, bytes_eq}
+use Rattle.std.specs.List.{list_any}
 
 abbrev pub is_held : List (List ℕ) → List ℕ → Bool
 is_held names name = list_any (λ held. bytes_eq held name) names
@@ -17,9 +13,15 @@ abbrev pub with_names : List (List ℕ) → List (List ℕ) → List (List ℕ)
 with_names names [] = names
 with_names names (x ∷ xs) = with_names (with_name names x) xs
 
--- without the first place at which it stands; names are held once each
+-- all but this one
 abbrev pub without_name : List (List ℕ) → List ℕ → List (List ℕ)
-without_name names name = without_at (position (λ held. bytes_eq held name) names) names
+without_name names name = filter (λ held. not (bytes_eq held name)) names
+
+-- after a read of a record: a name that has no record is held no longer
+abbrev pub names_read : {A E : Type 0} → Result (Option A) E → List (List ℕ) → List ℕ → List (List ℕ)
+names_read (Ok None) names name = without_name names name
+names_read (Ok (Some found)) names name = names
+names_read (Err fault) names name = names
 
 -- the name is held, or there is room for one more
 abbrev pub HasRoom : List (List ℕ) → ℕ → List ℕ → Type 0

@@ -1,5 +1,6 @@
 -- What an opening finds, and what is gone after it.
-use Rattle.std.specs.Prelude.{◌≡◌, ◌⊎◌, ℕ, ◌<◌, ◌≤◌, List, [], length, map, None, IfSome, Contains}
+use Rattle.std.specs.Prelude.{◌≡◌, ◌⊎◌, ℕ, ◌<◌, ◌≤◌, List, [], length, map, None, IfSome, Contains, bytes_eq}
+use Rattle.std.specs.List.{IsDistinct}
 use Rattle.std.specs.FinMap.{get, keys}
 use Rattle.board_model.specs.Files.{IsTemporary}
 use Rattle.record_names.specs.Names.{IsRecordName, account_of}
@@ -22,6 +23,8 @@ AreListed disk files = IfSome disk.now (λ now. files ≡ keys now.files)
 pub record AreRead (files names : List (List ℕ)) : Type 0 where
   pub found : (q : List ℕ) → IsRecordName q → Contains files q → Contains names q
   pub only : (q : List ℕ) → Contains names q → IsRecordName q × Contains files q
+  -- each stands as often as its file does
+  pub once : IsDistinct bytes_eq files → IsDistinct bytes_eq names
 
 -- those that are named, each once, in the order given, and then the others of the records, in their order
 abbrev pub accounts_found : List (List ℕ) → List (List ℕ) → List (List ℕ)

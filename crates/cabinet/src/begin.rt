@@ -1,11 +1,12 @@
 //! How a cabinet is opened.
 
-ghost use Rattle.std.specs.Prelude.{◌≡◌, ◌≤◌, ℕ, List, Contains, IfOk, IfErr, IsErrOf, MatchResult, vec_capacity};
+ghost use Rattle.std.specs.Prelude.{◌≡◌, ◌≤◌, ℕ, List, [], Contains, IfOk, IfErr, IsErrOf, MatchResult, vec_capacity};
 ghost use Rattle.fault_count.specs.Causes.{HasCause};
 ghost use Rattle.board_model.specs.Files.{IsTemporary};
 ghost use Rattle.board_model.specs.Disk.{Leaves, Goes};
 ghost use Rattle.staged_file.specs.Staged.{Kept};
 ghost use Rattle.cabinet.specs.Opening.{AreFound, Opened, accounts_found};
+ghost use Rattle.cabinet.specs.Named.{HasNames};
 ghost use Rattle.cabinet.specs.OpenFaults.{IsFoundFault, IsOpenFault};
 ghost use Rattle.cabinet.specs.Held.{board_of, names_of, accounts_of, most_of};
 
@@ -70,6 +71,7 @@ fn open<B: Board>(
     ensures any_moment { Leaves (B.disk board.old) (B.disk board.new) Kept }
     ensures kept { Goes (B.disk board.old) (B.disk board.new) Kept }
     ensures opened { IfOk result (λ both. Opened (B.disk board.old) (B.disk board.new) named.now most both.0.items both.1.items) }
+    ensures named { IfOk result (λ both. HasNames [] (B.disk board.new) both.0.items) }
     ensures room { IfOk result (λ both. most ≤ vec_capacity both.0) }
     ensures fault { IfErr result (IsOpenFault (B.disk board.old) named.now most) }
     ensures cause { HasCause (B.faults board.old) (B.faults board.new) (IsErrOf result CabinetFault.Failed) }
@@ -99,6 +101,8 @@ impl<B: Board> Cabinet<B> {
         most: usize,
     ) -> Result<Cabinet<B>, (CabinetFault, B)>
         ensures opened { IfOk result (λ cabinet. Opened (B.disk board) (B.disk (board_of cabinet)) accounts.items most (names_of cabinet) (accounts_of cabinet)) }
+        // The names are those of the records that are there, and no name is unsure.
+        ensures named { IfOk result (λ cabinet. HasNames [] (B.disk (board_of cabinet)) (names_of cabinet)) }
         ensures most { IfOk result (λ cabinet. most_of cabinet ≡ most) }
         ensures fault { IfErr result (λ refused. IsOpenFault (B.disk board) accounts.items most refused.0) }
         // At each moment the other files and the words are as they were.

@@ -5,13 +5,14 @@ ghost use Rattle.std.specs.FinMap.{get};
 ghost use Rattle.fault_count.specs.Causes.{HasCause};
 ghost use Rattle.board_model.specs.Disk.{Unchanged};
 ghost use Rattle.cabinet.specs.Edits.{Edit, File, Words, Changes, Agrees, IsSettled};
-ghost use Rattle.cabinet.specs.Names.{with_name, without_name, HasRoom};
+ghost use Rattle.cabinet.specs.Names.{with_name, without_name, names_read, HasRoom};
+ghost use Rattle.cabinet.specs.Named.{KeepsNames, unsure_changed, unsure_read};
 ghost use Rattle.cabinet.specs.Held.{board_of, names_of, accounts_of, most_of};
 ghost use Rattle.cabinet.specs.Faults.{IsReadFault};
 
 use crate::cabinet::Cabinet;
 use crate::fault::{CabinetFault, fault_of};
-use crate::names::forget;
+use crate::names::{forget, hold};
 use board_model::Board;
 use ct_bytes::{Blob, Text};
 use fault_count::Failed;
@@ -22,8 +23,8 @@ use std::alloc::Global;
 const READ_MOST: usize = 49_182;
 
 impl<B: Board> Cabinet<B> {
-    /// The bytes of a record, at most 49,182, and `None` where there is no such record. The faults are
-    /// `Failed` and `NoMemory`.
+    /// The bytes of a record, at most 49,182, and `None` where there is no such record, whose name is then
+    /// held no longer. The faults are `Failed` and `NoMemory`.
     pub fn get(&mut self, alloc: Global, name: &RecordName) -> Result<Option<Blob>, CabinetFault>
         ensures content { IfOk result (λ found. IfSome (B.disk (board_of self.old)).now
             (λ now. found ≡ option_map (take 49182) (get now.files name.now))) }
@@ -31,12 +32,18 @@ impl<B: Board> Cabinet<B> {
         ensures only { IfErr result IsReadFault }
         ensures cause { HasCause (B.faults (board_of self.old)) (B.faults (board_of self.new))
             (IsErrOf result CabinetFault.Failed) }
-        ensures names { names_of self.new ≡ names_of self.old }
+        ensures names { names_of self.new ≡ names_read result (names_of self.old) name.now }
+        ensures named { KeepsNames (unsure_read (is_ok result) name.now)
+            (B.disk (board_of self.old)) (names_of self.old) (B.disk (board_of self.new)) (names_of self.new) }
         ensures accounts { accounts_of self.new ≡ accounts_of self.old }
         ensures most { most_of self.new ≡ most_of self.old }
     {
         match self.board.read(alloc, name.as_str(), READ_MOST) {
-            Ok(found) => Ok(found),
+            Ok(Some(bytes)) => Ok(Some(bytes)),
+            Ok(None) => {
+                forget(&mut self.names, name);
+                Ok(None)
+            }
             Err(fault) => Err(fault_of(fault)),
         }
     }
@@ -51,12 +58,12 @@ impl<B: Board> Cabinet<B> {
         ensures cause { HasCause (B.faults (board_of self.old)) (B.faults (board_of self.new)) (IsErr result) }
         // The name is held also where the put failed: its record may be there.
         ensures names { names_of self.new ≡ with_name (names_of self.old) name.now }
+        ensures named { KeepsNames (unsure_changed (is_ok result) name.now)
+            (B.disk (board_of self.old)) (names_of self.old) (B.disk (board_of self.new)) (names_of self.new) }
         ensures accounts { accounts_of self.new ≡ accounts_of self.old }
         ensures most { most_of self.new ≡ most_of self.old }
     {
-        if !self.names.contains(name) {
-            self.names.push_reserved(*name);
-        }
+        hold(&mut self.names, name);
         staged_file::put(&mut self.board, name.as_str(), bytes)
     }
 
@@ -68,6 +75,8 @@ impl<B: Board> Cabinet<B> {
         // The name is held also where the removal failed: its record may be there.
         ensures names { names_of self.new
             ≡ (if is_ok result then without_name (names_of self.old) name.now else names_of self.old) }
+        ensures named { KeepsNames (unsure_changed (is_ok result) name.now)
+            (B.disk (board_of self.old)) (names_of self.old) (B.disk (board_of self.new)) (names_of self.new) }
         ensures accounts { accounts_of self.new ≡ accounts_of self.old }
         ensures most { most_of self.new ≡ most_of self.old }
     {
@@ -87,6 +96,8 @@ impl<B: Board> Cabinet<B> {
         ensures unchanged { Unchanged (B.disk (board_of self.old)) (B.disk (board_of self.new)) }
         ensures cause { HasCause (B.faults (board_of self.old)) (B.faults (board_of self.new)) (IsErr result) }
         ensures names { names_of self.new ≡ names_of self.old }
+        ensures named { KeepsNames (λ unsure. unsure)
+            (B.disk (board_of self.old)) (names_of self.old) (B.disk (board_of self.new)) (names_of self.new) }
         ensures accounts { accounts_of self.new ≡ accounts_of self.old }
         ensures most { most_of self.new ≡ most_of self.old }
     {
@@ -99,6 +110,8 @@ impl<B: Board> Cabinet<B> {
         ensures unchanged { Unchanged (B.disk (board_of self.old)) (B.disk (board_of self.new)) }
         ensures cause { HasCause (B.faults (board_of self.old)) (B.faults (board_of self.new)) (IsErr result) }
         ensures names { names_of self.new ≡ names_of self.old }
+        ensures named { KeepsNames (λ unsure. unsure)
+            (B.disk (board_of self.old)) (names_of self.old) (B.disk (board_of self.new)) (names_of self.new) }
         ensures accounts { accounts_of self.new ≡ accounts_of self.old }
         ensures most { most_of self.new ≡ most_of self.old }
     {
@@ -111,13 +124,15 @@ impl<B: Board> Cabinet<B> {
             (Words words.now) (IsOk result) }
         ensures cause { HasCause (B.faults (board_of self.old)) (B.faults (board_of self.new)) (IsErr result) }
         ensures names { names_of self.new ≡ names_of self.old }
+        ensures named { KeepsNames (λ unsure. unsure)
+            (B.disk (board_of self.old)) (names_of self.old) (B.disk (board_of self.new)) (names_of self.new) }
         ensures accounts { accounts_of self.new ≡ accounts_of self.old }
         ensures most { most_of self.new ≡ most_of self.old }
     {
         self.board.nv_store(words)
     }
 
-    /// The names of the records, and besides only those of failed calls.
+    /// The names of the records that are there, each once, and besides only those of failed calls.
     pub fn names(&self) -> &[RecordName]
         ensures value { result.now ≡ names_of self.now }
     {

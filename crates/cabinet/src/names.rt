@@ -1,17 +1,19 @@
 //! The list of names.
 
-ghost use Rattle.std.specs.Prelude.{◌≡◌, ◌<◌, length, bytes_eq, IfSome, vec_capacity};
-ghost use Rattle.std.specs.List.{position};
-ghost use Rattle.cabinet.specs.Names.{without_name};
+ghost use Rattle.std.specs.Prelude.{◌≡◌, vec_capacity};
+ghost use Rattle.cabinet.specs.Names.{with_name, without_name, HasRoom};
 
 use record_names::RecordName;
 
-// The first place at which a name stands.
-fn place_of(names: &[RecordName], name: &RecordName) -> Option<usize>
-    ensures value { result ≡ position (λ held. bytes_eq held name.now) names.now }
-    ensures within { IfSome result (λ at. at < length names.now) }
+/// Puts a name into the list, unless it is there. There is room for it.
+pub fn hold(names: &mut Vec<RecordName>, name: &RecordName)
+    requires { HasRoom names.old.items (vec_capacity names.old) name.now }
+    ensures names { names.new.items ≡ with_name names.old.items name.now }
+    ensures room { vec_capacity names.new ≡ vec_capacity names.old }
 {
-    names.iter().position(|held| held == name)
+    if !names.contains(name) {
+        names.push_reserved(*name);
+    }
 }
 
 /// Takes a name out of the list.
@@ -19,10 +21,5 @@ pub fn forget(names: &mut Vec<RecordName>, name: &RecordName)
     ensures names { names.new.items ≡ without_name names.old.items name.now }
     ensures room { vec_capacity names.new ≡ vec_capacity names.old }
 {
-    match place_of(names, name) {
-        Some(at) => {
-            names.remove(at);
-        }
-        None => {}
-    }
+    names.retain(|held| held != name);
 }

@@ -1,5 +1,5 @@
 -- The era of a share in memory.
-use Rattle.share_api.specs.Contents.{Era}
+use Rattle.pw_types.specs.declared.era.Era.{Era}
 
 abbrev pub mem_era : Era
 mem_era = record { boot = 1; start = 0 }

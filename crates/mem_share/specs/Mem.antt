@@ -17,7 +17,7 @@ seen_of share = record {
   faults = share.log.faults;
   era = mem_era;
   spare = share.log.spare;
-  lost = None;
+  lost = share.lost;
 }
 
 -- what it holds

@@ -5,9 +5,10 @@ ghost use Rattle.std.specs.FinMap.{get, keys};
 ghost use Rattle.share_api.specs.Contents.{settled};
 ghost use Rattle.share_api.specs.Steps.{Leads};
 ghost use Rattle.share_api.specs.Replies.{fault_reply, done_reply, found_reply, label_reply, try_reply, fits_reply, view_reply, AreListed, IsNamesReply};
-ghost use Rattle.share_api.specs.Conditions.{IsReadFault, IsTryFault, TellsLoss};
+ghost use Rattle.share_api.specs.Conditions.{IsReadFault, IsLeafFault, IsTryFault, TellsLoss};
 ghost use Rattle.share_api.specs.declared.step.Op.{Op};
 ghost use Rattle.share_api.specs.declared.step.Reply.{Reply};
+ghost use Rattle.share_api.specs.declared.step.Write.{Write};
 ghost use Rattle.mem_share.specs.Era.{mem_era};
 ghost use Rattle.mem_share.specs.Held.{contents_of, leaves_of, records_of};
 ghost use Rattle.mem_share.specs.Counts.{Counts};
@@ -50,6 +51,31 @@ pub fn write(held: &mut Held, calls: &mut CallList, write: &Write) -> Result<(),
     }
 }
 
+/// A removal of a leaf.
+pub fn remove_leaf(
+    held: &mut Held,
+    calls: &mut CallList,
+    lost: &Option<(Hash, Hash)>,
+    label: Label,
+) -> Result<(), ShareFault>
+    ensures leads { (moment : ℕ) → Leads mem_era moment (Op.Do (Write.RemoveLeaf label)) (done_reply result)
+        (settled (contents_of held.old)) (contents_of held.new) }
+    ensures only { IfErr result IsLeafFault }
+    ensures lost { TellsLoss lost.now result }
+    ensures counted { Counts calls.old calls.new (IsErrOf result ShareFault.Failed) }
+{
+    let Some(roots) = lost else {
+        return write(held, calls, &Write::RemoveLeaf(label));
+    };
+    let is_listed = calls.next().is_some();
+    held.settle();
+    Err(if is_listed {
+        ShareFault::Failed
+    } else {
+        tree_lost(roots)
+    })
+}
+
 // Two copies of a record: one for the answer, and one for the step.
 fn copies(bytes: &Blob) -> Result<(Blob, Blob), NoMemory>
     ensures first { IfOk result (λ both. both.0 ≡ bytes.now) }
@@ -88,17 +114,22 @@ pub fn get(
 pub fn look(
     held: &mut Held,
     calls: &mut CallList,
+    lost: &Option<(Hash, Hash)>,
     label: Label,
 ) -> Result<Option<LeafView>, ShareFault>
     ensures leads { Leads mem_era 0 (Op.LookLeaf label) (view_reply result)
         (settled (contents_of held.old)) (contents_of held.new) }
-    ensures only { IsErr result → IsErrOf result ShareFault.Failed }
-    ensures counted { Counts calls.old calls.new (IsErr result) }
+    ensures only { IfErr result IsLeafFault }
+    ensures lost { TellsLoss lost.now result }
+    ensures counted { Counts calls.old calls.new (IsErrOf result ShareFault.Failed) }
 {
     let listed = calls.next();
     held.settle();
     if listed.is_some() {
         return Err(ShareFault::Failed);
+    }
+    if let Some(roots) = lost {
+        return Err(tree_lost(roots));
     }
     match held.leaf(label) {
         None => Ok(None),
@@ -120,14 +151,27 @@ fn free_label(held: &Held) -> Option<Label>
 }
 
 /// A new leaf.
-pub fn insert(held: &mut Held, calls: &mut CallList, leaf: &NewLeaf) -> Result<Label, ShareFault>
+pub fn insert(
+    held: &mut Held,
+    calls: &mut CallList,
+    lost: &Option<(Hash, Hash)>,
+    leaf: &NewLeaf,
+) -> Result<Label, ShareFault>
     ensures leads { (moment : ℕ) → Leads mem_era moment (Op.InsertLeaf leaf.now) (label_reply result)
         (settled (contents_of held.old)) (contents_of held.new) }
-    ensures only { IsErr result → IsErrOf result ShareFault.Failed }
-    ensures counted { Counts calls.old calls.new (IsErr result) }
+    ensures only { IfErr result IsLeafFault }
+    ensures lost { TellsLoss lost.now result }
+    ensures counted { Counts calls.old calls.new (IsErrOf result ShareFault.Failed) }
 {
     let listed = calls.next();
     held.settle();
+    if let Some(roots) = lost {
+        return Err(if listed.is_some() {
+            ShareFault::Failed
+        } else {
+            tree_lost(roots)
+        });
+    }
     let free = free_label(held);
     match listed {
         Some(is_done) => {
@@ -148,6 +192,16 @@ pub fn insert(held: &mut Held, calls: &mut CallList, leaf: &NewLeaf) -> Result<L
     }
 }
 
+// The fault that tells the roots of a lost tree.
+fn tree_lost(roots: &(Hash, Hash)) -> ShareFault
+    ensures { result ≡ ShareFault.TreeLost roots.now.0 roots.now.1 }
+{
+    ShareFault::TreeLost {
+        host: roots.0,
+        chip: roots.1,
+    }
+}
+
 // The fault of a leaf that isn't there.
 fn no_leaf(label: Label) -> ShareFault
     ensures only { IsTryFault label result }
@@ -160,6 +214,7 @@ fn no_leaf(label: Label) -> ShareFault
 pub fn try_leaf(
     held: &mut Held,
     calls: &mut CallList,
+    lost: &Option<(Hash, Hash)>,
     label: Label,
     les: &Hash,
     moment: u64,
@@ -168,11 +223,18 @@ pub fn try_leaf(
     ensures leads { Leads mem_era moment (Op.TryLeaf label les.now) (try_reply result)
         (settled (contents_of held.old)) (contents_of held.new) }
     ensures only { IfErr result (IsTryFault label) }
-    ensures lost { TellsLoss None result }
+    ensures lost { TellsLoss lost.now result }
     ensures counted { Counts calls.old calls.new (IsErrOf result ShareFault.Failed) }
 {
     let listed = calls.next();
     held.settle();
+    if let Some(roots) = lost {
+        return Err(if listed.is_some() {
+            ShareFault::Failed
+        } else {
+            tree_lost(roots)
+        });
+    }
     let Some(leaf) = held.leaf(label) else {
         return Err(if listed.is_some() {
             ShareFault::Failed
@@ -199,17 +261,25 @@ pub fn try_leaf(
 pub fn reset_leaf(
     held: &mut Held,
     calls: &mut CallList,
+    lost: &Option<(Hash, Hash)>,
     label: Label,
     secret: &Hash,
 ) -> Result<bool, ShareFault>
     ensures leads { (moment : ℕ) → Leads mem_era moment (Op.ResetLeaf label secret.now) (fits_reply result)
         (settled (contents_of held.old)) (contents_of held.new) }
     ensures only { IfErr result (IsTryFault label) }
-    ensures lost { TellsLoss None result }
+    ensures lost { TellsLoss lost.now result }
     ensures counted { Counts calls.old calls.new (IsErrOf result ShareFault.Failed) }
 {
     let listed = calls.next();
     held.settle();
+    if let Some(roots) = lost {
+        return Err(if listed.is_some() {
+            ShareFault::Failed
+        } else {
+            tree_lost(roots)
+        });
+    }
     let Some(leaf) = held.leaf(label) else {
         return Err(if listed.is_some() {
             ShareFault::Failed

@@ -17,18 +17,21 @@ use std::alloc::Global;
 ///
 /// Its calls but `stock`, `place` and `spare` are numbered from 1. Such a call fails exactly where the
 /// list names its number, or where there is no memory for its change; then `starved` rises. It knows no
-/// account's name, its era is boot 1 from the moment 0, and its tree isn't lost. A leaf's record has the
-/// account `m` in its name.
+/// account's name, and its era is boot 1 from the moment 0. Its tree is lost where it is told to be; then a
+/// call on leaves changes nothing, fails where it is listed, and tells the two roots where it isn't. A leaf's
+/// record has the account `m` in its name.
 #[derive(Drop)]
 pub struct MemShare {
     pub(crate) account: u8,
     pub(crate) held: Held,
     pub(crate) calls: CallList,
     pub(crate) log: StepLog,
+    /// The host's root and the chip's, where the tree is lost.
+    pub(crate) lost: Option<(Hash, Hash)>,
 }
 
 impl MemShare {
-    ghost use Rattle.std.specs.Prelude.{◌≡◌, ◌+◌, ◌≤◌, ◌<◌, ◌^◌, ℕ, [], IfOk, IsErr, IsErrOf};
+    ghost use Rattle.std.specs.Prelude.{◌≡◌, ◌+◌, ◌≤◌, ◌<◌, ◌^◌, ℕ, [], None, Some, IfOk, IsErr, IsErrOf};
     ghost use Rattle.share_api.specs.Contents.{no_contents};
     ghost use Rattle.share_api.specs.Seen.{Makes, step_of};
     ghost use Rattle.share_api.specs.Steps.{Does};
@@ -46,6 +49,7 @@ impl MemShare {
         ensures place { IfOk result (λ share. (seen_of share).place ≡ 0) }
         ensures spare { IfOk result (λ share. (seen_of share).spare ≡ 0) }
         ensures faults { IfOk result (λ share. (seen_of share).faults ≡ 0) }
+        ensures lost { IfOk result (λ share. (seen_of share).lost ≡ None) }
         ensures calls { IfOk result (λ share. calls_in share ≡ record { fails = fails; made = 0; starved = 0 }) }
     {
         Ok(MemShare {
@@ -57,7 +61,31 @@ impl MemShare {
                 starved: FaultCount::new(),
             },
             log: StepLog::new(alloc),
+            lost: None,
         })
+    }
+
+    /// The share with a lost tree: the host's tree has this root, and the chip's that one.
+    pub fn with_lost_tree(self, host: Hash, chip: Hash) -> MemShare
+        ensures seen { seen_of result ≡ record (seen_of self) { lost = Some (host, chip) } }
+        ensures contents { contents_in result ≡ contents_in self }
+        ensures calls { calls_in result ≡ calls_in self }
+    {
+        let MemShare {
+            account,
+            held,
+            calls,
+            log,
+            lost,
+        } = self;
+        let _ = lost;
+        MemShare {
+            account,
+            held,
+            calls,
+            log,
+            lost: Some((host, chip)),
+        }
     }
 
     // Stores a step.
@@ -67,6 +95,7 @@ impl MemShare {
         ensures held { self.new.held ≡ self.old.held }
         ensures calls { self.new.calls ≡ self.old.calls }
         ensures account { self.new.account ≡ self.old.account }
+        ensures lost { self.new.lost ≡ self.old.lost }
     {
         self.log.add(Step {
             account: self.account,
@@ -205,9 +234,9 @@ impl Share for MemShare {
         ensures goes { IsSameAccount self.old self.new }
         ensures told { Does mem_era (contents_in self.old)
             (step_of (seen_of self.old) moment (Op.InsertLeaf leaf.now) (label_reply result)) (contents_in self.new) }
-        ensures counted { Counts (calls_in self.old) (calls_in self.new) (IsErr result) }
+        ensures counted { Counts (calls_in self.old) (calls_in self.new) (IsErrOf result ShareFault.Failed) }
     {
-        let answer = ops::insert(&mut self.held, &mut self.calls, leaf);
+        let answer = ops::insert(&mut self.held, &mut self.calls, &self.lost, leaf);
         self.store(moment, Op::InsertLeaf(*leaf), label_reply(&answer));
         answer
     }
@@ -224,7 +253,14 @@ impl Share for MemShare {
             (step_of (seen_of self.old) moment (Op.TryLeaf label les.now) (try_reply result)) (contents_in self.new) }
         ensures counted { Counts (calls_in self.old) (calls_in self.new) (IsErrOf result ShareFault.Failed) }
     {
-        let answer = ops::try_leaf(&mut self.held, &mut self.calls, label, les, moment);
+        let answer = ops::try_leaf(
+            &mut self.held,
+            &mut self.calls,
+            &self.lost,
+            label,
+            les,
+            moment,
+        );
         self.store(moment, Op::TryLeaf(label, *les), try_reply(&answer));
         answer
     }
@@ -241,7 +277,7 @@ impl Share for MemShare {
             (step_of (seen_of self.old) moment (Op.ResetLeaf label reset.now) (fits_reply result)) (contents_in self.new) }
         ensures counted { Counts (calls_in self.old) (calls_in self.new) (IsErrOf result ShareFault.Failed) }
     {
-        let answer = ops::reset_leaf(&mut self.held, &mut self.calls, label, reset);
+        let answer = ops::reset_leaf(&mut self.held, &mut self.calls, &self.lost, label, reset);
         self.store(moment, Op::ResetLeaf(label, *reset), fits_reply(&answer));
         answer
     }
@@ -256,9 +292,15 @@ impl Share for MemShare {
         ensures goes { IsSameAccount self.old self.new }
         ensures told { Does mem_era (contents_in self.old)
             (step_of (seen_of self.old) moment (Op.Do (Write.RemoveLeaf label)) (done_reply result)) (contents_in self.new) }
-        ensures counted { Counts (calls_in self.old) (calls_in self.new) (IsErr result) }
+        ensures counted { Counts (calls_in self.old) (calls_in self.new) (IsErrOf result ShareFault.Failed) }
     {
-        self.write(moment, Write::RemoveLeaf(label))
+        let answer = ops::remove_leaf(&mut self.held, &mut self.calls, &self.lost, label);
+        self.store(
+            moment,
+            Op::Do(Write::RemoveLeaf(label)),
+            done_reply(&answer),
+        );
+        answer
     }
 
     fn leaf(&mut self, label: Label) -> Result<Option<LeafView>, ShareFault>
@@ -270,9 +312,9 @@ impl Share for MemShare {
         ensures goes { IsSameAccount self.old self.new }
         ensures told { Does mem_era (contents_in self.old)
             (step_of (seen_of self.old) 0 (Op.LookLeaf label) (view_reply result)) (contents_in self.new) }
-        ensures counted { Counts (calls_in self.old) (calls_in self.new) (IsErr result) }
+        ensures counted { Counts (calls_in self.old) (calls_in self.new) (IsErrOf result ShareFault.Failed) }
     {
-        let answer = ops::look(&mut self.held, &mut self.calls, label);
+        let answer = ops::look(&mut self.held, &mut self.calls, &self.lost, label);
         self.store(0, Op::LookLeaf(label), view_reply(&answer));
         answer
     }

@@ -4,8 +4,9 @@ use Rattle.board_model.specs.Disk.{Same}
 use Rattle.board_model.proofs.Effects.{leaves_weaker, goes_weaker}
 use Rattle.staged_file.specs.Staged.{Kept}
 use Rattle.staged_file.proofs.Staging.{kept_same}
-use Rattle.cabinet.specs.Opening.{AreFound}
+use Rattle.cabinet.specs.Opening.{AreFound, AreRead}
 use Rattle.cabinet.proofs.OpeningLemmas.{leaves_listed, goes_listed, on_not_err, if_ok}
+use Rattle.cabinet.proofs.NamedCalls.{opened_names}
 use Rattle.cabinet.proofs.begin.open.Goals as goal
 
 pub returns-in-Err-clause-any_moment : goal.returns-in-Err-clause-any_moment
@@ -42,3 +43,12 @@ returns-clause-opened g c =
       found = subst (λ (xs : List (List ℕ)). AreFound xs c.args.named.now c.args.most both.0.items both.1.items) c.deref-2.ensures.value h;
       gone = λ q there temporary. gone q (subst (λ (xs : List (List ℕ)). Contains xs q) (sym c.deref.ensures.value) there) temporary;
     }) c.found.ensures.found
+
+pub returns-clause-named : goal.returns-clause-named
+returns-clause-named g c =
+    let a = g.B.Board.disk c.args.board.now in
+    let b = g.B.Board.disk c.list.new.self in
+    let n = g.B.Board.disk c.clear.new.board in
+    if_ok c.found.result _ _ (λ both h.
+    opened_names a n c.in-Ok.files.items both.0.items c.in-Ok.ensures.content (subst (λ (xs : List (List ℕ)). AreRead xs both.0.items) c.deref-2.ensures.value h.read)
+    (goes_listed a b n c.list.ensures.unchanged.goes c.clear.ensures.kept)) c.found.ensures.found
