@@ -9,7 +9,8 @@ use Rattle.account_machine.specs.declared.user.Durable.{Durable}
 use Rattle.account_machine.specs.User.{no_home, new_home}
 use Rattle.pw_types.specs.declared.stamp.Stamp.{Stamp}
 use Rattle.record_names.specs.Names.{is_account_name, AreParts, File, stash_name, factor_name, file_name}
-use Rattle.share_api.specs.Contents.{Bytes, Contents, Era, settled}
+use Rattle.share_api.specs.Contents.{Bytes, Contents, settled}
+use Rattle.pw_types.specs.declared.era.Era.{Era}
 use Rattle.share_api.specs.Folds.{Throughout}
 use Rattle.share_api.specs.Steps.{Does, Follows, FollowsInsert, with_leaf, leaf_of}
 use Rattle.share_api.specs.declared.step.Step.{Step}

@@ -7,3 +7,4 @@ pub mod Unnamed
 pub mod Adding
 pub mod EditLaws
 pub mod Clean
+pub mod Sizes

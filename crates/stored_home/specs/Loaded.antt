@@ -8,6 +8,8 @@ use Rattle.share_api.specs.Contents.{Bytes, Contents, Records}
 use Rattle.stash_format.specs.declared.block.Block.{Block}
 use Rattle.stash_format.specs.declared.contents.Contents.{Contents as Stash}
 use Rattle.factor_files.specs.declared.factor.FactorRecord.{FactorRecord}
+use Rattle.stored_home.specs.declared.stored.Kept.{Kept}
+use Rattle.stored_home.specs.declared.stored.Stored.{Stored}
 use Rattle.stored_home.specs.Matching.{Matches}
 use Rattle.stored_home.specs.Holds.{HasStash, record_at}
 
@@ -15,11 +17,9 @@ use Rattle.stored_home.specs.Holds.{HasStash, record_at}
 abbrev pub Rows : Type 0
 Rows = FinMap (slice_cmp nat_cmp) FactorRecord
 
--- what an account keeps in memory of its records
-pub record Loaded : Type 0 where
-  pub stash : Option Stash
-  pub factors : Rows
-  pub files : FinMap (slice_cmp nat_cmp) (Unit {0})
+-- vault files that are there, by name
+abbrev pub Filed : Type 0
+Filed = FinMap (slice_cmp nat_cmp) Kept
 
 -- the block of a label
 abbrev pub block_in : Option Stash → Bytes → Option Block
@@ -33,7 +33,7 @@ pub record IsRowOf (records : Records) (account label : Bytes) (block : Block) (
   pub read : record_at records account label block.edition ≡ Some row
 
 -- what loading gives
-pub record IsLoaded (contents : Contents) (account : Bytes) (loaded : Loaded) : Type 0 where
+pub record IsLoaded (contents : Contents) (account : Bytes) (loaded : Stored) : Type 0 where
   pub stash : HasStash contents.records account loaded.stash
   pub rows : (label : Bytes) → Matches (IsRowOf contents.records account label)
       (block_in loaded.stash label) (get loaded.factors label)
@@ -41,11 +41,11 @@ pub record IsLoaded (contents : Contents) (account : Bytes) (loaded : Loaded) : 
       → IsSome (get loaded.files name) ↔ IsSome (get contents.records (file_name account name))
 
 -- the home has factors
-abbrev pub HasFactors : Loaded → Type 0
+abbrev pub HasFactors : Stored → Type 0
 HasFactors loaded = IsSomeAnd loaded.stash (λ stash. IsSome stash.payload)
 
 -- the loaded state names the record: vault files where the home has factors
-abbrev pub IsNamed : Bytes → Loaded → Bytes → Type 0
+abbrev pub IsNamed : Bytes → Stored → Bytes → Type 0
 IsNamed account loaded name =
     (name ≡ stash_name account)
     ⊎ ((label : Bytes) × (row : FactorRecord) × (get loaded.factors label ≡ Some row)
@@ -54,17 +54,17 @@ IsNamed account loaded name =
     × (name ≡ file_name account file)))
 
 -- the loaded state names the leaf
-abbrev pub NamesTree : Loaded → ℕ → Type 0
+abbrev pub NamesTree : Stored → ℕ → Type 0
 NamesTree loaded tree =
     (label : Bytes) × (row : FactorRecord) × (get loaded.factors label ≡ Some row) × (row.leaf ≡ Some tree)
 
 -- nothing is there that the loaded state doesn't name
-pub record IsTidy (lost : Bool) (contents : Contents) (account : Bytes) (loaded : Loaded) : Type 0 where
+pub record IsTidy (lost : Bool) (contents : Contents) (account : Bytes) (loaded : Stored) : Type 0 where
   pub records : (name : Bytes) → IsSome (get contents.records name) → IsNamed account loaded name
   pub leaves : lost ≡ false → (tree : ℕ) → IsSome (get contents.leaves tree) → NamesTree loaded tree
 
 -- the loaded state is that of the contents, nothing else is there, and no leaf is in doubt
-pub record IsKept (lost : Bool) (contents : Contents) (account : Bytes) (loaded : Loaded) : Type 0 where
+pub record IsKept (lost : Bool) (contents : Contents) (account : Bytes) (loaded : Stored) : Type 0 where
   pub is_loaded : IsLoaded contents account loaded
   pub tidy : IsTidy lost contents account loaded
   pub clear : contents.doubt ≡ None

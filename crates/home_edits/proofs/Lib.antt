@@ -1,0 +1,16 @@
+pub mod Edited
+pub mod NamesApart
+pub mod KeptLemmas
+pub mod HomeEdits
+pub mod FileEdits
+pub mod FileReads
+pub mod StashLemmas
+pub mod LoadedFactors
+pub mod FactorKept
+pub mod FactorRecords
+pub mod PasswordEdits
+pub mod FactorRemoved
+pub mod FirstEdits
+pub mod ResealEdits
+pub mod CostLemmas
+pub mod ShortLemmas

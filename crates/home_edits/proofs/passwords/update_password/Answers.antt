@@ -1,0 +1,90 @@
+use Rattle.std.proofs.Common.{[], ◌∷◌, refl, ◌≡◌, IsOk, IsErr, None, Some, inl, inr}
+use Rattle.std.specs.Prelude.{IsErrOf}
+use Rattle.std.specs.FinMap.{get}
+use Rattle.factor_files.specs.declared.factor.FactorRecord.{FactorRecord}
+use Rattle.share_api.specs.declared.step.Write.TheVariants.{Put, Remove}
+use Rattle.stored_home.specs.declared.fault.StoreFault.TheVariants as faults
+use Rattle.home_edits.specs.Passwords.{SetsPassword, TakesFactor, password_row, with_password}
+use Rattle.home_edits.proofs.CostLemmas.{costs_none, costs_tried, row_suits, stash_suits, removal_suits}
+use Rattle.home_edits.proofs.Edited.{edits_none, err_not_ok, memory_not_failed, fault_is_err, ok_gives, there_gives, there_some}
+use Rattle.home_edits.proofs.PasswordEdits.{update_edits}
+use Rattle.home_edits.proofs.ShortLemmas.{short_stays, short_as}
+use Rattle.home_edits.proofs.passwords.update_password.Goals as goal
+
+-- there was no memory
+pub returns-in_err-puts-clause-edits : goal.returns-in_err-puts-clause-edits
+returns-in_err-puts-clause-edits g c =
+    edits_none (g.S.Share.seen c.args.share.now) c.args.account.now c.args.stored.now c.args.stored.now _ _
+    (SetsPassword c.args.label.now c.args.derived.now c.args.main.now)
+    (err_not_ok c.from_residual.result c.from_residual.ensures.0) (memory_not_failed c.from_residual.result
+    c.from_residual.ensures.1)
+
+-- the steps were tried
+pub returns-clause-edits : goal.returns-clause-edits
+returns-clause-edits g c =
+    let known = there_some (λ (row : FactorRecord). row.leaf ≡ None) (get c.args.stored.now.factors c.args.label.now)
+    c.requires.known in
+    update_edits (g.S.Share.seen c.args.share.now) (g.S.Share.seen c.commit_update.new.share) c.args.account.now
+    c.args.stored.now
+    c.commit_update.new.stored c.in-Some.stash known.0 (IsOk c.commit_update.result)
+    (IsErrOf c.commit_update.result faults.Failed)
+    (IsOk c.commit_update.result) (IsErr c.commit_update.result)
+    c.args.label.now c.args.derived.now c.args.main.now c.args.iv c.in_ok-puts.puts c.record_of-old.result
+    c.requires.plain c.in-Some.is c.requires.label
+    (there_gives (TakesFactor c.args.label.now) c.args.stored.now.stash c.in-Some.stash c.in-Some.is c.requires.home)
+    known.1 known.2 c.in_ok-puts.ensures.value (c.record_of-old.ensures.value known.0 known.1)
+    (ok_gives c.commit_update.result (c.commit_update.new.stored
+    ≡ record c.args.stored.now { stash = Some c.in_ok-puts.puts.stash; factors = c.in_ok-puts.puts.factors })
+    c.commit_update.ensures.ok)
+    c.commit_update.ensures.tried (λ o. o) (fault_is_err c.commit_update.result faults.Failed)
+
+-- the old record is the account's
+pub commit_update-requires-clause-old_own : goal.commit_update-requires-clause-old_own
+commit_update-requires-clause-old_own g c =
+    let known = there_some (λ (row : FactorRecord). row.leaf ≡ None) (get c.args.stored.now.factors c.args.label.now)
+    c.requires.known in (
+      c.args.account.now,
+      c.requires.own,
+      inr (inl (
+        c.args.label.now,
+        known.0.edition,
+        c.record_of-old.ensures.value
+            known.0 known.1,
+      )),
+    )
+
+-- nothing was put
+pub returns-in_err-puts-clause-cost : goal.returns-in_err-puts-clause-cost
+returns-in_err-puts-clause-cost g c = costs_none (g.S.Share.seen c.args.share.now) c.args.account.now
+    c.args.derived.now.cost
+
+-- the record has the cost that was given
+pub returns-clause-cost : goal.returns-clause-cost
+returns-clause-cost g c =
+    let puts = c.in_ok-puts.puts in
+    let are = c.in_ok-puts.ensures.value in
+    costs_tried (g.S.Share.seen c.args.share.now) (g.S.Share.seen c.commit_update.new.share) c.args.account.now
+    c.args.derived.now.cost
+    (Put puts.row_put.name puts.row_put.bytes ∷ Put puts.stash_put.name puts.stash_put.bytes ∷ Remove
+    c.record_of-old.result ∷ [])
+    (IsOk c.commit_update.result) (IsErr c.commit_update.result) c.commit_update.ensures.tried (
+      row_suits c.args.account.now puts.row_put.name puts.row_put.bytes
+          (password_row c.args.label.now c.in-Some.stash.next c.args.derived.now) c.args.derived.now.cost are.row_put.1
+          refl,
+      (
+        stash_suits c.args.account.now puts.stash_put.name puts.stash_put.bytes c.args.derived.now.cost are.stash_put.0,
+        (removal_suits c.args.account.now c.record_of-old.result c.args.derived.now.cost, tt),
+      ),
+    )
+
+-- the payload is as it was
+pub returns-clause-short : goal.returns-clause-short
+returns-clause-short g c =
+    short_stays c.commit_update.result c.args.stored.now c.commit_update.new.stored
+    (record c.args.stored.now { stash = Some c.in_ok-puts.puts.stash; factors = c.in_ok-puts.puts.factors })
+    c.commit_update.ensures.ok c.commit_update.ensures.err
+    (short_as (with_password c.in-Some.stash c.args.label.now c.args.derived.now c.args.main.now c.args.iv)
+    c.in_ok-puts.puts.stash
+    c.in_ok-puts.ensures.value.stash_is
+    (there_gives (TakesFactor c.args.label.now) c.args.stored.now.stash c.in-Some.stash c.in-Some.is
+    c.requires.home).short)

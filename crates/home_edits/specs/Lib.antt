@@ -1,0 +1,9 @@
+pub mod Edits
+pub mod Puts
+pub mod Homes
+pub mod Files
+pub mod Passwords
+pub mod Removals
+pub mod FirstPasswords
+pub mod Reseals
+pub mod Costs
