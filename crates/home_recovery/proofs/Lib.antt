@@ -1,0 +1,8 @@
+pub mod ReadLemmas
+pub mod CallLemmas
+pub mod RowLemmas
+pub mod BoundLemmas
+pub mod FileLemmas
+pub mod HomeLemmas
+pub mod LoadLemmas
+pub mod RemovalLemmas

@@ -1,0 +1,11 @@
+//! Loading what an account keeps in memory of its records, and removing what its stash doesn't name.
+#![tactic(auto)]
+
+mod bounds;
+mod files;
+mod loading;
+mod read;
+mod rows;
+mod stash;
+
+pub use loading::load;
