@@ -1,0 +1,10 @@
+pub mod RecordLemmas
+pub mod KeyLemmas
+pub mod ContentLemmas
+pub mod BoardLemmas
+pub mod UnsureLemmas
+pub mod PickLemmas
+pub mod LookLemmas
+pub mod StepLemmas
+pub mod ChainLemmas
+pub mod OpeningLemmas
