@@ -1,0 +1,12 @@
+//! Tests of the platform's lock and of the accounts' locks.
+#![tactic(auto)]
+
+mod device;
+mod looks;
+#[cfg(test)]
+mod shares;
+mod walk;
+
+pub use device::CountingDevice;
+pub use looks::LookTurns;
+pub use walk::{look_at, looks_of_two};

@@ -1,0 +1,47 @@
+//! Turns that look and change nothing.
+
+use crate::device::CountingDevice;
+use home_locks::AccountTurns;
+use pw_path::Label;
+use share_api::Share;
+use std::alloc::Global;
+
+/// Turns that look at one leaf, over a platform that holds nothing.
+pub struct LookTurns;
+
+impl AccountTurns for LookTurns {
+    ghost use Rattle.home_lock_tests.specs.Looks.{look_rules, IsBlankImage, looks_recover};
+
+    type Platform = CountingDevice;
+
+    type Contents = u8;
+
+    type Durable = u8;
+
+    type User = u8;
+
+    type Turn = u64;
+
+    type State = u8;
+
+    ghost rules = { λ era. look_rules };
+
+    ghost contents = { λ device account. 0 };
+
+    ghost images = { λ device. IsBlankImage };
+
+    ghost recovers = { λ first now chain stands. looks_recover chain };
+
+    fn blank() -> u64 {
+        0
+    }
+
+    fn act<S: Share>(alloc: Global, share: &mut S, state: &mut u8, turn: u64) -> u64 {
+        let _ = state;
+        if share.stock(alloc, 1).is_err() {
+            return turn;
+        }
+        let _ = share.leaf(Label::new(0).unwrap());
+        turn
+    }
+}

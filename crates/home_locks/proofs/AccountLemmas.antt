@@ -1,0 +1,82 @@
+-- The value behind an account's lock after a turn.
+use Rattle.std.proofs.Common.{◌≡◌, ℕ, ◌%◌, ◌^◌, length, List, [], ◌∷◌, ◌++◌, Option, None, Some, sym, ap, ◌∙◌, subst}
+use Rattle.home_image.specs.Settled.{BookStands}
+use Rattle.home_image.proofs.BookLemmas.{stands-turn}
+use Rattle.pw_types.specs.declared.era.Era.{Era}
+use Rattle.share_api.specs.Places.{place_after}
+use Rattle.share_api.specs.declared.step.Step.{Step}
+use Rattle.share_api.proofs.RunLaws.{place_turn}
+use Rattle.turn_lock.specs.Seats.{SeatView, seat_after}
+use Rattle.platform_lock.specs.Devices.{DeviceSeen}
+use Rattle.platform_lock.specs.Seats.{AccountView, ShareView, new_share, seen_of, own_at, IsSameShare}
+use Rattle.home_locks.specs.Meanings.{Rules, meaning_of}
+use Rattle.home_locks.specs.Turns.{ActStands, made_of}
+use Rattle.home_locks.specs.Accounts.{AccountStands, AddsTurn}
+use Rattle.home_locks.specs.declared.account.Entry.{Entry}
+
+abbrev value_or : {A : Type 0} → A → Option A → A
+value_or a None = a
+value_or a (Some b) = b
+
+-- an option has one value
+pub one_value : {A : Type 0} (a b : A) (o : Option A) → o ≡ Some a → o ≡ Some b → a ≡ b
+one_value a b o p q = ap (value_or a) (sym p ∙ q)
+
+-- The account stands with the turn's entry: its seat knows the turn's steps behind those that it knew.
+pub account_turn : {C D U T X : Type 0} (rules_at : Era → Rules C D U T X) (era : Era)
+    (device : DeviceSeen) (first old new : Option AccountView) (start before after : X) (own own_new : AccountView)
+    (share share_new : ShareView) (client place : ℕ) (turn : T) (book : List (Entry T))
+    → AccountStands (rules_at era) first start old before book
+    → era ≡ device.era
+    → old ≡ Some own
+    → share ≡ new_share device own
+    → IsSameShare share share_new
+    → share_new.seat ≡ Some own_new.seat
+    → new ≡ Some own_new
+    → place ≡ share_new.place
+    → ActStands (rules_at (seen_of share).era) before after turn (seen_of share) (seen_of share_new)
+    → AccountStands (rules_at era) first start new after
+    (book ++ record { client = client; turn = turn; place = place } ∷ [])
+account_turn rules_at era device first old new start before after own own_new share share_new client place turn book
+    stands era_is had made goes kept now at acted =
+    let m = meaning_of (rules_at era) in
+    let act = subst (λ e. ActStands (rules_at e) before after turn (seen_of share) (seen_of share_new))
+    (ap (λ (s : ShareView). s.device.era) made ∙ sym era_is) acted in
+    let entry : Entry _ = record { client = client; turn = turn; place = place } in
+    let was : share.seat ≡ Some own.seat = ap (λ s. s.seat) made in
+    let had_is : own ≡ stands.seat = one_value own stands.seat old had stands.seat_is in
+    let after_is = goes.1 own.seat was in
+    let seat_is : own_new.seat ≡ after_is.0 =
+    one_value own_new.seat after_is.0 share_new.seat kept after_is.1 in
+    let own_is : own_new.seat.own ≡ stands.seat.seat.own ++ act.own =
+    sym (ap own_at kept) ∙ act.steps.own_is ∙ ap (λ s. own_at s ++ act.own) was
+    ∙ ap (λ (o : AccountView). o.seat.own ++ act.own) had_is in
+    record {
+      start = stands.start;
+      seat = own_new;
+      start_is = stands.start_is;
+      seat_is = now;
+      none = stands.none;
+      same = seat_is ∙ after_is.2
+          ∙ ap (λ (s : SeatView Step). record s { own = after_is.0.own })
+          (ap (λ (o : AccountView). o.seat) had_is ∙ stands.same)
+          ∙ ap (λ (s : SeatView Step). record stands.start.seat { own = s.own }) (sym seat_is);
+      book_stands = subst (λ xs. BookStands m start after xs (book ++ entry ∷ [])) (sym own_is)
+          (stands-turn m start before after stands.seat.seat.own book (made_of client turn place act.own)
+          stands.book_stands
+          (record {
+            place = at ∙ act.steps.place ∙ ap (λ (s : ShareView). place_after s.place act.own) made
+                ∙ place_turn act.own;
+            right = act.right client place;
+          }));
+    }
+
+-- a seat after a turn has its entry behind the others
+pub adds_turn : {T : Type 0} (old held new : SeatView (Entry T)) (before : List (Entry T)) (entry : Entry T) (told : ℕ)
+    → held ≡ old
+    → entry.client ≡ old.caller
+    → new ≡ seat_after held before entry
+    → told ≡ length before % 2 ^ 64
+    → AddsTurn old new told
+adds_turn old held new before entry told same client left at =
+    (length before, entry, client, at, left ∙ ap (λ (s : SeatView (Entry _)). seat_after s before entry) same)

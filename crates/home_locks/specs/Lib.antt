@@ -1,0 +1,5 @@
+pub mod Meanings
+pub mod Turns
+pub mod Accounts
+pub mod Closing
+pub mod Settled

@@ -1,0 +1,64 @@
+//! What the locks need of a platform and of users' turns.
+
+ghost use Rattle.std.specs.Prelude.{◌≡◌, ℕ, List};
+ghost use Rattle.pw_types.specs.declared.era.Era.{Era};
+ghost use Rattle.image_path.specs.Paths.{Recovers};
+ghost use Rattle.image_path.specs.Showing.{ByAccount};
+ghost use Rattle.share_api.specs.declared.step.Step.{Step};
+ghost use Rattle.home_locks.specs.Meanings.{Rules, meaning_of};
+ghost use Rattle.home_locks.specs.Turns.{ActStands};
+
+use platform_lock::Device;
+use share_api::Share;
+use std::alloc::Global;
+
+/// A platform of several accounts, and the turns of their users.
+pub trait AccountTurns {
+    /// The platform.
+    type Platform: Device + Drop;
+
+    /// What an account has on the platform.
+    type Contents;
+
+    /// The durable part of a user.
+    type Durable;
+
+    /// A user of the machine.
+    type User;
+
+    /// What a turn asks, and then also its answer.
+    type Turn: Drop;
+
+    /// The state of an account in memory.
+    type State: Drop;
+
+    /// What steps, turns and states mean in an era.
+    ghost rules: { Era → Rules Self.Contents Self.Durable Self.User Self.Turn Self.State };
+
+    /// What a platform has of each account.
+    ghost contents: { Self.Platform → ByAccount Self.Contents };
+
+    /// What the images have of each account that a crash since the opening may leave.
+    ghost images: { Self.Platform → ByAccount Self.Contents → Type 0 };
+
+    /// A turn that asks nothing yet.
+    fn blank() -> Self::Turn;
+
+    /// Takes one turn, and gives what was asked with the answer.
+    fn act<S: Share>(
+        alloc: Global,
+        share: &mut S,
+        state: &mut Self::State,
+        turn: Self::Turn,
+    ) -> Self::Turn
+        ensures goes { S.goes share.old share.new }
+        ensures stands { ActStands (rules (S.seen share.old).era) state.old state.new result (S.seen share.old)
+            (S.seen share.new) };
+
+    /// Each image has of all accounts what their steps among the first so many lead to, and the platform has what
+    /// all of them lead to.
+    ghost recovers: { (first now : Self.Platform) (chain : List Step)
+        → Self.Platform.stands first now chain
+        → Recovers (meaning_of (rules (Self.Platform.seen first).era)) (contents first) (contents now) (images now)
+        chain };
+}

@@ -1,0 +1,4 @@
+pub mod Devices
+pub mod Answers
+pub mod Seats
+pub mod SameShare
