@@ -1,8 +1,10 @@
 //! The table: 64 places, whose memory is taken once.
 
-ghost use Rattle.std.specs.Prelude.{◌≡◌, ◌+◌, ◌<◌, ◌-◌, ◌^◌, [], None, Some, ◌≤◌, IfOk, length, vec_len, vec_capacity, slice_get, option_copied, option_and_then, option_map};
+ghost use Rattle.std.specs.Prelude.{◌≡◌, ◌+◌, ◌<◌, ◌-◌, ◌^◌, [], None, Some, ◌≤◌, IfOk, length, vec_len, vec_capacity, slice_get, option_copied, option_and_then, option_map, IfSome, IfNone};
 ghost use Rattle.std.specs.List.{remove};
 ghost use Rattle.account_machine.specs.Effect.{extended_end, proved_end};
+ghost use Rattle.account_machine.specs.Outline.{session_at};
+ghost use Rattle.account_machine.specs.Sessions.{place_of};
 ghost use Rattle.auth_session.specs.Table.{sessions_in, new_session, with_kept, edit_at, found_in, extended_kept, proved_kept, first_proved_kept};
 ghost use Rattle.auth_session.specs.declared.table.Kept.{Kept as KeptSeen};
 
@@ -69,6 +71,31 @@ fn place(kept: &[Kept], token: &Token, moment: u64) -> Result<usize, SessionFaul
         }
     }
     Err(SessionFault::Unknown)
+}
+
+// The token's session, also past its end.
+fn session_at(kept: &[Kept], token: &Token) -> Option<Session>
+    ensures { result ≡ session_at (sessions_in kept.now) token.now }
+{
+    for known in kept {
+        if known.session.is_of(token) {
+            return Some(known.session);
+        }
+    }
+    None
+}
+
+// The place of the token's session, also past its end.
+fn place_at(kept: &[Kept], token: &Token) -> Option<usize>
+    ensures some { IfSome result (λ at. (at ≡ place_of token.now (sessions_in kept.now)) × (at < length kept.now)) }
+    ensures none { IfNone result (session_at (sessions_in kept.now) token.now ≡ None) }
+{
+    for (place, known) in kept.iter().enumerate() {
+        if known.session.is_of(token) {
+            return Some(place);
+        }
+    }
+    None
 }
 
 // One more. Of 64 the oldest goes.
@@ -243,6 +270,21 @@ impl SessionTable {
         ensures { self.new ≡ record self.old { kept = remove self.old.kept at } }
     {
         self.kept.remove(at);
+    }
+
+    /// The token's session, also past its end.
+    pub fn session(&self, token: &Token) -> Option<Session>
+        ensures { result ≡ session_at (sessions_in self.now.kept) token.now }
+    {
+        session_at(&self.kept, token)
+    }
+
+    /// The place of the token's session, also past its end.
+    pub fn place(&self, token: &Token) -> Option<usize>
+        ensures some { IfSome result (λ at. (at ≡ place_of token.now (sessions_in self.now.kept)) × (at < length self.now.kept)) }
+        ensures none { IfNone result (session_at (sessions_in self.now.kept) token.now ≡ None) }
+    {
+        place_at(&self.kept, token)
     }
 
     /// The session there.

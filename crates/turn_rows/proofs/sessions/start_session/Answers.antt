@@ -1,0 +1,18 @@
+use Rattle.std.proofs.Common.{◌+◌, sym, subst}
+use Rattle.account_machine.specs.declared.answer.Answer.TheVariants as answers
+use Rattle.account_machine.specs.declared.request.Request.TheVariants.{StartSession}
+use Rattle.account_machine.specs.declared.request.Turn.TheVariants.{Act}
+use Rattle.account_machine.specs.declared.session.Token.{Token}
+use Rattle.auth_session.specs.Table.{Table}
+use Rattle.user_state.specs.Turns.{IsGiven}
+use Rattle.turn_rows.proofs.sessions.start_session.Goals as goal
+use Rattle.turn_rows.proofs.Rows.{start_given}
+
+pub returns-clause-given : goal.returns-clause-given
+returns-clause-given c = λ share account.
+    subst (λ (pair : Table × Token). IsGiven share share c.args.state.now
+    (record c.args.state.now { generator = c.salt-tail.new.self; sessions = pair.0 })
+    (Act (StartSession account c.args.intent)) (answers.OkSession (c.args.state.now.last + 300) pair.1))
+    (λ i. (sym c.start-token.ensures.after i, sym c.start-token.ensures.token i))
+    (start_given c.args.state.now c.requires.ready share c.salt-tail.new.self c.salt-tail.result c.args.intent account
+    c.requires.due)

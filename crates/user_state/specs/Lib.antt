@@ -1,0 +1,4 @@
+pub mod Outlines
+pub mod Fits
+pub mod SameOutline
+pub mod Turns
