@@ -4,13 +4,13 @@ use Rattle.std.proofs.lemmas.List.{drop_at}
 use Rattle.std.specs.List.{AllByRecursion}
 use Rattle.factor_files.specs.Record.{factor_at}
 use Rattle.factor_files.specs.declared.factor.FactorRecord.{FactorRecord}
-use Rattle.record_names.specs.Names.{stash_name, factor_name}
+use Rattle.record_names.specs.Names.{stash_name, factor_name, file_name}
 use Rattle.share_api.specs.Contents.{Bytes}
 use Rattle.share_api.specs.Places.{steps_of}
-use Rattle.share_api.specs.Seen.{ShareSeen, Tries}
+use Rattle.share_api.specs.Seen.{ShareSeen, Makes, Tries}
 use Rattle.share_api.specs.Steps.{Follows, ThenReply}
 use Rattle.share_api.specs.declared.step.Op.{Op}
-use Rattle.share_api.specs.declared.step.Op.TheVariants.{Do}
+use Rattle.share_api.specs.declared.step.Op.TheVariants.{Do, Get}
 use Rattle.share_api.specs.declared.step.Reply.{Reply}
 use Rattle.share_api.specs.declared.step.Reply.TheVariants.{Done, Found, Listed, Labelled, Tried, Fits, Viewed, TreeLost, Damaged, Failed, NoMemory}
 use Rattle.share_api.specs.declared.step.Step.{Step}
@@ -18,7 +18,7 @@ use Rattle.share_api.specs.declared.step.Write.{Write}
 use Rattle.share_api.specs.declared.step.Write.TheVariants.{Put, Remove}
 use Rattle.stored_home.proofs.MapLemmas.{from_some}
 use Rattle.home_edits.specs.Costs.{HasCost, PutsCost}
-use Rattle.home_edits.proofs.NamesApart.{stash_apart_factor}
+use Rattle.home_edits.proofs.NamesApart.{stash_apart_factor, factor_apart_file}
 
 module _ (P : Step → Type 0) where
   -- what is so of each step that makes one of the changes
@@ -52,7 +52,7 @@ module _ (P : Step → Type 0) where
       (h.0 step f.0, by_reply step.reply steps (Follows writes steps) (λ more. follows_all writes steps h.1 more) f.1)
 
 -- what stands behind equal fronts is equal
-same_rest : {A : Type 0} (front one two : List A) → front ++ one ≡ front ++ two → one ≡ two
+pub same_rest : {A : Type 0} (front one two : List A) → front ++ one ≡ front ++ two → one ≡ two
 same_rest front one two same =
     sym (drop_at front one (length front) refl) ∙ ap (drop (length front)) same ∙ drop_at front two (length front) refl
 
@@ -75,6 +75,15 @@ stash_suits account name bytes cost is step op label edition other found same th
     let names : name ≡ factor_name account label edition = cc in
     absurd (stash_apart_factor account label edition (sym is ∙ names))
 
+-- nor is a vault file's
+pub filed_suits : (account name bytes file : Bytes) (cost : ℕ) → name ≡ file_name account file
+    → Suited (HasCost account cost) (Put name bytes)
+filed_suits account name bytes file cost is step op label edition other found same there =
+    let both : ◌≡◌ {A = Op} (Do (Put name bytes)) (Do (Put (factor_name account label edition) other)) = sym op ∙ same
+    in
+    let names : name ≡ factor_name account label edition = cc in
+    absurd (factor_apart_file account label edition file (sym names ∙ is))
+
 -- a removal puts nothing
 pub removal_suits : (account name : Bytes) (cost : ℕ) → Suited (HasCost account cost) (Remove name)
 removal_suits account name cost step op label edition other found same there =
@@ -90,6 +99,18 @@ costs_tried old new account cost writes went err tried all own is =
     subst (AllByRecursion (HasCost account cost))
     (sym (ap (λ (o : List (ℕ × Step)). steps_of o) same ∙ tried.runs.steps_are))
     (follows_all (HasCost account cost) writes tried.steps all tried.follows)
+
+-- a step that reads
+pub costs_read : (old new : ShareSeen) (account name : Bytes) (cost : ℕ) (step : Step) → Makes old new step
+    → step.op ≡ Get name → PutsCost old new account cost
+costs_read old new account name cost step makes read own is =
+    let same : own ≡ (makes.at, step) ∷ [] = same_rest old.own own ((makes.at, step) ∷ []) (sym is ∙ makes.own) in
+    subst (λ (o : List (ℕ × Step)). AllByRecursion (HasCost account cost) (steps_of o)) (sym same) (
+      λ label edition bytes row put at.
+          let both : ◌≡◌ {A = Op} (Get name) (Do (Put (factor_name account label edition) bytes)) = sym read ∙ put in
+          absurd (cc both),
+      tt,
+    )
 
 -- no steps
 pub costs_none : (old : ShareSeen) (account : Bytes) (cost : ℕ) → PutsCost old old account cost

@@ -112,9 +112,9 @@ module _ (lost : Bool) (account : Bytes) (contents new : Contents) (stored : Sto
       set_kept = record {
         is_loaded = record { stash = there; rows = rows_set; files = files_same };
         tidy = record {
-          records = λ q is_there. ⊎_elim inl
+          records = λ q own is_there. ⊎_elim inl
               (λ k. ⊎_elim (λ e. inr (inl (label, row, put_at stored.factors label row, e)))
-              (λ w. named_set q w.1 (kept.tidy.records q w.0)) k)
+              (λ w. named_set q w.1 (kept.tidy.records q own w.0)) k)
               (names q is_there);
           leaves = λ found tree is_there. ⊎_elim
               (λ e. (label, row, put_at stored.factors label row, e))
@@ -174,7 +174,7 @@ module _ (lost : Bool) (account : Bytes) (contents new : Contents) (stored : Sto
     rest_kept = record {
       is_loaded = record { stash = there; rows = rows_left; files = files_same };
       tidy = record {
-        records = λ q is_there. ⊎_elim inl (λ w. named_left q w.1 (kept.tidy.records q w.0)) (names q is_there);
+        records = λ q own is_there. ⊎_elim inl (λ w. named_left q w.1 (kept.tidy.records q own w.0)) (names q is_there);
         leaves = λ found tree is_there.
             let w = leaves found tree is_there in leaf_left tree w.1 (kept.tidy.leaves found tree w.0);
       };

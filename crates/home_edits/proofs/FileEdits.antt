@@ -1,29 +1,33 @@
 -- A vault file is put by the put of its record.
-use Rattle.std.proofs.Common.{◌≡◌, ◌≢◌, [], ◌∷◌, Some, Bool, sym, subst, inl, inr, ⊎_elim}
+use Rattle.std.proofs.Common.{◌≡◌, ◌≢◌, ◌⊎◌, ℕ, List, [], ◌∷◌, None, Some, Bool, refl, sym, ap, ◌∙◌, subst, inl, inr, ⊎_elim}
 use Rattle.std.specs.Prelude.{IsSome, IsTrue, is_some}
 use Rattle.std.specs.FinMap.{get}
 use Rattle.account_machine.specs.declared.user.Durable.{Durable}
 use Rattle.record_names.specs.Names.{is_account_name, AreParts, File, stash_name, factor_name, file_name}
-use Rattle.share_api.specs.Contents.{Bytes, Contents, settled}
-use Rattle.share_api.specs.Folds.{Throughout}
-use Rattle.share_api.specs.Seen.{ShareSeen, Tries}
-use Rattle.share_api.specs.Steps.{Does, done}
+use Rattle.share_api.specs.Contents.{Bytes, Contents, Records, settled}
+use Rattle.share_api.specs.Folds.{Fold, Throughout}
+use Rattle.share_api.specs.Places.{steps_of}
+use Rattle.share_api.specs.Seen.{ShareSeen, Runs, Tries}
+use Rattle.share_api.specs.Steps.{Does, Follows, done}
+use Rattle.share_api.specs.declared.step.Step.{Step}
 use Rattle.share_api.specs.declared.step.Write.TheVariants.{Put}
+use Rattle.share_api.proofs.FoldLaws.{throughout_end}
+use Rattle.share_api.proofs.StepLaws.{throughout_follows}
 use Rattle.stash_format.specs.declared.contents.Contents.{Contents as Stash}
 use Rattle.stored_home.specs.Adding.{HoldsEither}
 use Rattle.stored_home.specs.Bounds.{HasBounds}
 use Rattle.stored_home.specs.Changes.{durable_with_file}
 use Rattle.stored_home.specs.Holds.{Keys, IsFileOf, HoldsBy, HasStash, HoldsUnder}
-use Rattle.stored_home.specs.Loaded.{IsKept, IsNamed, HasFactors, block_in}
+use Rattle.stored_home.specs.Loaded.{Filed, IsKept, IsNamed, HasFactors, block_in}
 use Rattle.stored_home.specs.declared.stored.Stored.{Stored}
-use Rattle.stored_home.proofs.MapLemmas.{same_or_apart, put_other}
+use Rattle.stored_home.proofs.MapLemmas.{same_or_apart, put_at, put_other, put_same}
 use Rattle.stored_home.proofs.NameLemmas.{file_tells_name}
 use Rattle.stored_home.proofs.ChangeLemmas.{file_put_held}
 use Rattle.stored_home.proofs.EditLemmas.{put_file_law}
 use Rattle.home_edits.specs.Edits.{Starts, Edits}
-use Rattle.home_edits.specs.Files.{PutsFile, with_file}
-use Rattle.home_edits.specs.Puts.{IsFilePut}
-use Rattle.home_edits.specs.declared.record_put.RecordPut.{RecordPut}
+use Rattle.home_edits.specs.Files.{PutsFile, EditsFile, TellsFile, IsFilePut, with_file}
+use Rattle.home_edits.specs.declared.files.FilePut.{FilePut}
+use Rattle.home_edits.proofs.CostLemmas.{same_rest}
 use Rattle.home_edits.proofs.Edited.{Suits, edits_tried}
 use Rattle.home_edits.proofs.KeptLemmas.{home_stash, stash_stays, rows_stay, held_by, put_keeps, put_is_there}
 use Rattle.home_edits.proofs.NamesApart.{stash_apart_file, factor_apart_file}
@@ -87,9 +91,9 @@ module _ (account : Bytes) (plain : IsTrue (is_account_name account)) (stored : 
         files = files_then;
       };
       tidy = record {
-        records = λ q there. ⊎_elim
+        records = λ q own there. ⊎_elim
             (λ e. inr (inr (home, (name, are, put_is_there stored.files name (record {}), e))))
-            (λ away. named_still q (kept.tidy.records q
+            (λ away. named_still q (kept.tidy.records q own
             (subst IsSome (put_other contents.records (file_name account name) bytes q away) there)))
             (same_or_apart q (file_name account name));
         leaves = kept.tidy.leaves;
@@ -126,6 +130,54 @@ module _ (account : Bytes) (plain : IsTrue (is_account_name account)) (stored : 
         → HasBounds (durable_with_file before name bytes_then)
     bounded contents keys before next starts = subst HasBounds starts.asked.after_is starts.asked.bounds
 
+    -- once the record is put, the durable part after it is held
+    put_held : (contents : Contents) (keys : Keys) (before next : Durable) → Begins contents keys before next
+        → HoldsUnder (is_some old.lost) (done (Put (file_name account name) bytes) contents) account next keys
+    put_held contents keys before next starts =
+        subst (λ (n : Durable). HoldsUnder (is_some old.lost) (done (Put (file_name account name) bytes) contents)
+        account n keys)
+        (sym starts.asked.after_is)
+        (file_put_held (is_some old.lost) account keys plain contents before stash name bytes bytes_then
+        (there contents starts.kept) (held contents keys before next starts) are some
+        (is_file contents keys before next starts) (bounded contents keys before next starts))
+
+    -- where the put led
+    abbrev Ended : Contents → Contents → Type 0
+    Ended contents new = (new ≡ contents) ⊎ (new ≡ done (Put (file_name account name) bytes) contents)
+
+    ended_by : (contents new : Contents) (steps : List Step) → contents.doubt ≡ None
+        → Follows (Put (file_name account name) bytes ∷ []) steps → Fold (Does old.era) contents steps new
+        → Ended contents new
+    ended_by contents new steps clear follows fold =
+        throughout_end (Does old.era) (Ended contents) contents new steps
+        (throughout_follows old.era contents (Put (file_name account name) bytes ∷ []) steps (Ended contents) clear
+        (inl refl, inr refl) follows) fold
+
+    -- the record tells which durable part is held
+    pub file_tells : (contents new : Contents) (keys : Keys) (before next : Durable) (steps : List Step)
+        → Begins contents keys before next → Follows (Put (file_name account name) bytes ∷ []) steps
+        → Fold (Does old.era) contents steps new
+        → TellsFile (is_some old.lost) account name bytes keys before next new
+    file_tells contents new keys before next steps starts follows fold =
+        ⊎_elim stayed went (ended_by contents new steps starts.kept.clear follows fold)
+      where
+        put : HoldsUnder (is_some old.lost) (done (Put (file_name account name) bytes) contents) account next keys
+        put = put_held contents keys before next starts
+
+        stayed : new ≡ contents → TellsFile (is_some old.lost) account name bytes keys before next new
+        stayed same = subst (TellsFile (is_some old.lost) account name bytes keys before next) (sym same) (record {
+          put = λ at. subst (λ (r : Records). HoldsUnder (is_some old.lost) (record contents { records = r }) account next keys)
+              (put_same contents.records (file_name account name) bytes at) put;
+          not_put = λ _. starts.holds;
+        })
+
+        went : new ≡ done (Put (file_name account name) bytes) contents
+            → TellsFile (is_some old.lost) account name bytes keys before next new
+        went same = subst (TellsFile (is_some old.lost) account name bytes keys before next) (sym same) (record {
+          put = λ _. put;
+          not_put = λ apart. absurd (apart (put_at contents.records (file_name account name) bytes));
+        })
+
     -- what put_file asks and does
     pub file_suits : (ok : Type 0) (later : Stored)
         → (ok → later ≡ record stored { files = with_file stored.files name })
@@ -139,29 +191,43 @@ module _ (account : Bytes) (plain : IsTrue (is_account_name account)) (stored : 
           starts.kept.clear (there contents starts.kept) (held contents keys before next starts) are some
           (is_file contents keys before next starts) (bounded contents keys before next starts) follows);
       last = λ o contents keys before next starts. (
-        subst (λ (n : Durable). HoldsUnder (is_some old.lost) (done (Put (file_name account name) bytes) contents)
-            account n keys)
-            (sym starts.asked.after_is)
-            (file_put_held (is_some old.lost) account keys plain contents before stash name bytes bytes_then
-            (there contents starts.kept) (held contents keys before next starts) are some
-            (is_file contents keys before next starts) (bounded contents keys before next starts)),
+        put_held contents keys before next starts,
         subst (IsKept (is_some old.lost) (done (Put (file_name account name) bytes) contents) account)
             (sym (is_later o))
             (file_kept (is_some old.lost) contents starts.kept),
       );
     }
 
+-- the steps between two states of a share are one list
+same_steps : (old new : ShareSeen) (one two : List Step) → Runs old new one → Runs old new two → one ≡ two
+same_steps old new one two a b =
+    sym a.steps_are
+    ∙ ap (λ (own : List (ℕ × Step)). steps_of own) (same_rest old.own a.own b.own (sym a.own_is ∙ b.own_is))
+    ∙ b.steps_are
+
 -- put_file, whichever way its put ended
 pub file_edits : (old new : ShareSeen) (account : Bytes) (stored later : Stored) (ok failed went err : Type 0)
-    (put : RecordPut)
-    (vault name bytes_then : Bytes)
-    → IsTrue (is_account_name account) → HasFactors stored → IsFilePut vault account name bytes_then put
-    → (ok → later ≡ record stored { files = with_file stored.files name })
-    → Tries old new (Put put.name put.bytes ∷ []) went err → (ok → went) → (failed → err)
-    → Edits old new account stored later ok failed (PutsFile vault name bytes_then)
-file_edits old new account stored later ok failed went err put vault name bytes_then plain home is is_later tried goes
-    fails =
-    edits_tried old new account stored later ok failed went err (PutsFile vault name bytes_then)
-    (Put (file_name account name) put.bytes) []
-    (subst (λ (n : Bytes). Tries old new (Put n put.bytes ∷ []) went err) is.name_is tried) goes fails
-    (file_suits account plain stored home name put.bytes is.are old vault bytes_then is.opens ok later is_later)
+    (vault bytes_then : Bytes) (put : FilePut) (named : Bytes)
+    → IsTrue (is_account_name account) → HasFactors stored → IsFilePut vault account bytes_then stored.files put
+    → AreParts (File account put.name) → named ≡ file_name account put.name
+    → (ok → later ≡ record stored { files = put.files })
+    → Tries old new (Put named put.sealed ∷ []) went err → (ok → went) → (failed → err)
+    → EditsFile old new account stored later ok failed vault bytes_then put
+file_edits old new account stored later ok failed went err vault bytes_then put named plain home is are same is_later
+    tried goes fails =
+    let whole : Tries old new (Put (file_name account put.name) put.sealed ∷ []) went err =
+    subst (λ (n : Bytes). Tries old new (Put n put.sealed ∷ []) went err) same tried in
+    let done : Edits old new account stored later ok failed (PutsFile vault put.name bytes_then) =
+    edits_tried old new account stored later ok failed went err (PutsFile vault put.name bytes_then)
+    (Put (file_name account put.name) put.sealed) [] whole goes fails
+    (file_suits account plain stored home put.name put.sealed are old vault bytes_then is.opens ok later
+    (λ o. is_later o ∙ ap (λ (f : Filed). record stored { files = f }) is.files_are)) in
+    record {
+      edits = done;
+      named = are;
+      tells = λ contents end keys before next starts fold.
+          file_tells account plain stored home put.name put.sealed are old vault bytes_then is.opens contents end
+          keys before next whole.steps starts whole.follows
+          (subst (λ (steps : List Step). Fold (Does old.era) contents steps end)
+          (same_steps old new done.steps whole.steps done.runs whole.runs) fold);
+    }

@@ -27,6 +27,7 @@ use Rattle.stored_home.specs.declared.stored.Stored.{Stored}
 use Rattle.stored_home.specs.declared.fault.StoreFault.{StoreFault}
 use Rattle.stored_home.specs.declared.fault.StoreFault.TheVariants as faults
 use Rattle.stored_home.proofs.FrameLemmas.{held_settled}
+use Rattle.share_api.proofs.StepLaws.{settled_same}
 use Rattle.home_edits.specs.Edits.{told_fault}
 use Rattle.home_edits.specs.Files.{ReadsFile, Shows, IsReadFileFault, file_in, file_of}
 use Rattle.home_edits.proofs.KeptLemmas.{home_stash, held_by}
@@ -76,6 +77,12 @@ module _ (old new : ShareSeen) (account vault name : Bytes)
         (held_settled (is_some old.lost) account keys contents durable h),
   )
 
+  same_after : (contents end : Contents) → contents.doubt ≡ None → Fold (Does old.era) contents (step ∷ []) end
+      → end ≡ contents
+  same_after contents end clear fold =
+      fold.2 ∙ read_leaves old.era (file_name account name) answer (settled contents) fold.0 fold.1
+      ∙ settled_same contents clear
+
   -- the file's bytes, which the home holds
   held_bytes : (bytes : Bytes) (contents : Contents) (durable : Durable) (keys : Keys) (stored : Stored) → HasFactors
       stored
@@ -105,6 +112,7 @@ module _ (old new : ShareSeen) (account vault name : Bytes)
     found = λ bytes e. absurd (none bytes e);
     held = λ bytes e. absurd (none bytes e);
     damaged = λ named e. absurd (sound named e);
+    same = same_after;
     kept = stays;
   }
 
@@ -135,6 +143,7 @@ module _ (old new : ShareSeen) (account vault name : Bytes)
     damaged = λ named e.
         let told = subst (λ r. Shows (file_name account name) r (file_in vault account name found)) e shows in
         (told.0, λ contents end fold. there contents end fold ∙ told.1);
+    same = same_after;
     kept = stays;
   }
     where

@@ -50,7 +50,7 @@ use Rattle.stored_home.proofs.EditLemmas.{add_law}
 use Rattle.home_edits.specs.Edits.{Starts, Edits}
 use Rattle.home_edits.specs.FirstPasswords.{TakesFirst, IsFirstStash, SetsFirstPassword}
 use Rattle.home_edits.specs.Passwords.{password_row, password_block, with_password, AreFactorPuts}
-use Rattle.home_edits.specs.declared.derived.Derived.{Derived}
+use Rattle.stored_home.specs.declared.derived.Derived.{Derived}
 use Rattle.home_edits.specs.declared.factor_puts.FactorPuts.{FactorPuts}
 use Rattle.home_edits.proofs.Edited.{Suits, edits_tried}
 use Rattle.home_edits.proofs.KeptLemmas.{held_by, none_matched}
@@ -186,7 +186,7 @@ module _ (account : Bytes) (plain : IsTrue (is_account_name account)) (stored : 
       named = λ name some. absurd (some_not_None (get before.files name) some (none name));
       bytes = λ name are. subst (λ x. Matches (IsFileOf keys.vault account name) x (get before.files name))
           (sym (file_gone (get contents.records (file_name account name)) name
-          (starts.kept.tidy.records (file_name account name))))
+          (starts.kept.tidy.records (file_name account name) (inr (inr (name, refl))))))
           (subst (λ y. Matches (IsFileOf keys.vault account name) None y) (sym (none name)) tt);
     }
       where

@@ -71,8 +71,8 @@ module _ (account : Bytes) (stored : Stored) (absent : stored.stash ≡ None) (b
             (λ h. subst IsSome (sym same) (was.0 h), λ h. was.1 (subst IsSome same h));
       };
       tidy = record {
-        records = λ name there. ⊎_elim inl
-            (λ away. named_still name (kept.tidy.records name
+        records = λ name own there. ⊎_elim inl
+            (λ away. named_still name (kept.tidy.records name own
             (subst IsSome (put_other contents.records (stash_name account) bytes name away) there)))
             (same_or_apart name (stash_name account));
         leaves = kept.tidy.leaves;

@@ -14,3 +14,5 @@ pub mod FirstEdits
 pub mod ResealEdits
 pub mod CostLemmas
 pub mod ShortLemmas
+pub mod CountLemmas
+pub mod CoherentEdits

@@ -33,7 +33,7 @@ use Rattle.stored_home.proofs.FrameLemmas.{other_removed}
 use Rattle.stored_home.proofs.EditLemmas.{add_law, update_law}
 use Rattle.home_edits.specs.Edits.{Starts, Edits}
 use Rattle.home_edits.specs.Passwords.{password_row, password_block, with_password, TakesFactor, SetsPassword, AreFactorPuts}
-use Rattle.home_edits.specs.declared.derived.Derived.{Derived}
+use Rattle.stored_home.specs.declared.derived.Derived.{Derived}
 use Rattle.home_edits.specs.declared.factor_puts.FactorPuts.{FactorPuts}
 use Rattle.home_edits.proofs.Edited.{Suits, edits_tried}
 use Rattle.home_edits.proofs.KeptLemmas.{held_by}

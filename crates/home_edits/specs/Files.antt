@@ -1,9 +1,9 @@
 -- Putting and reading a vault file.
-use Rattle.std.specs.Prelude.{◌≡◌, List, Option, None, Some, Result, Ok, Err, is_some}
+use Rattle.std.specs.Prelude.{◌≡◌, ◌≢◌, ◌≤◌, Bool, List, Option, None, Some, Result, Ok, Err, is_some, length}
 use Rattle.std.specs.Result.{result_ok}
 use Rattle.std.specs.FinMap.{get, insert}
 use Rattle.account_machine.specs.declared.user.Durable.{Durable}
-use Rattle.record_names.specs.Names.{file_name}
+use Rattle.record_names.specs.Names.{AreParts, File, file_name}
 use Rattle.share_api.specs.Contents.{Bytes, Contents}
 use Rattle.share_api.specs.Folds.{Fold, Throughout}
 use Rattle.share_api.specs.Seen.{ShareSeen, Runs, HasFailed}
@@ -12,9 +12,11 @@ use Rattle.share_api.specs.declared.step.Step.{Step}
 use Rattle.vault_crypt.specs.VaultFile.{opened_file}
 use Rattle.stored_home.specs.Bounds.{HasBounds}
 use Rattle.stored_home.specs.Changes.{durable_with_file}
-use Rattle.stored_home.specs.Holds.{Keys, HoldsUnder}
+use Rattle.stored_home.specs.Holds.{Keys, IsFileOf, HoldsUnder}
 use Rattle.stored_home.specs.Loaded.{Filed, HasFactors, IsKept}
 use Rattle.stored_home.specs.declared.stored.Stored.{Stored}
+use Rattle.home_edits.specs.Edits.{Edits, Starts}
+use Rattle.home_edits.specs.declared.files.FilePut.{FilePut}
 use Rattle.stored_home.specs.declared.fault.StoreFault.{StoreFault}
 use Rattle.stored_home.specs.declared.fault.StoreFault.TheVariants as faults
 
@@ -28,6 +30,30 @@ pub record PutsFile (vault name bytes : Bytes) (contents : Contents) (keys : Key
   pub vault_is : keys.vault ≡ vault
   pub after_is : after ≡ durable_with_file before name bytes
   pub bounds : HasBounds after
+
+-- a file's record is made, its bytes under the vault key, and so are the loaded files with it
+pub record IsFilePut (vault account plain : Bytes) (files : Filed) (put : FilePut) : Type 0 where
+  pub opens : IsFileOf vault account put.name put.sealed plain
+  pub size : length put.sealed ≤ 49181
+  pub files_are : put.files ≡ with_file files put.name
+
+-- The file's record tells which durable part is held: the one after the put where the record is the one that was put,
+-- and else the one before it.
+pub record TellsFile (lost : Bool) (account name sealed : Bytes) (keys : Keys) (before after : Durable)
+    (contents : Contents) : Type 0 where
+  pub put : get contents.records (file_name account name) ≡ Some sealed → HoldsUnder lost contents account after keys
+  pub not_put : get contents.records (file_name account name) ≢ Some sealed
+      → HoldsUnder lost contents account before keys
+
+-- put_file: an edit of which the file's record tells whether it was done, whichever way it ended
+pub record EditsFile (old new : ShareSeen) (account : Bytes) (stored after : Stored) (ok failed : Type 0)
+    (vault plain : Bytes) (put : FilePut) : Type 0 where
+  pub named : AreParts (File account put.name)
+  pub edits : Edits old new account stored after ok failed (PutsFile vault put.name plain)
+  pub tells : (contents new : Contents) (keys : Keys) (before next : Durable)
+      → Starts (is_some old.lost) account stored (PutsFile vault put.name plain) contents keys before next
+      → Fold (Does old.era) contents edits.steps new
+      → TellsFile (is_some old.lost) account put.name put.sealed keys before next new
 
 -- what a file's record opens to under the vault key: nothing where it isn't there, breaks its form or has another tag
 abbrev pub file_in : Bytes → Bytes → Bytes → Option Bytes → Option Bytes
@@ -72,6 +98,9 @@ pub record ReadsFile (old new : ShareSeen) (account vault name : Bytes) (result 
         → (record_name ≡ file_name account name)
         × ((contents new : Contents) → Fold (Does old.era) contents steps new → file_of vault account name contents ≡
         None)
+    -- nothing changes
+    pub same : (contents new : Contents) → contents.doubt ≡ None → Fold (Does old.era) contents steps new
+        → new ≡ contents
     pub kept : (contents : Contents) (durable : Durable) (keys : Keys)
         → HoldsUnder (is_some old.lost) contents account durable keys
         → Throughout (Does old.era) (λ c. HoldsUnder (is_some old.lost) c account durable keys) contents steps

@@ -15,7 +15,7 @@ use Rattle.stored_home.specs.Bounds.{HasBounds}
 use Rattle.stored_home.specs.Changes.{stash_with}
 use Rattle.stored_home.specs.Holds.{Keys}
 use Rattle.home_edits.specs.Passwords.{password_block}
-use Rattle.home_edits.specs.declared.derived.Derived.{Derived}
+use Rattle.stored_home.specs.declared.derived.Derived.{Derived}
 
 -- the stash is of a home without factors that takes its first
 pub record TakesFirst (label : Bytes) (stash : Stash) : Type 0 where

@@ -16,7 +16,7 @@ use Rattle.stored_home.specs.Changes.{stash_with}
 use Rattle.stored_home.specs.Holds.{Keys}
 use Rattle.stored_home.specs.Loaded.{Rows}
 use Rattle.home_edits.specs.Puts.{IsStashPut, IsRowPut}
-use Rattle.home_edits.specs.declared.derived.Derived.{Derived}
+use Rattle.stored_home.specs.declared.derived.Derived.{Derived}
 use Rattle.home_edits.specs.declared.factor_puts.FactorPuts.{FactorPuts}
 
 -- the record of a password of this edition, with the salt and cost that its key was derived with

@@ -12,6 +12,7 @@ use Rattle.share_api.specs.Contents.{Bytes, Contents}
 use Rattle.stash_format.specs.declared.contents.Contents.{Contents as Stash}
 use Rattle.stash_format.specs.Sizes.{payload_size, most_payload}
 use Rattle.stored_home.specs.Holds.{Keys, record_at}
+use Rattle.stored_home.specs.declared.stored.Stored.{Stored}
 use Rattle.home_edits.specs.Puts.{IsStashPut}
 use Rattle.home_edits.specs.declared.record_put.RecordPut.{RecordPut}
 
@@ -34,6 +35,12 @@ pub record IsResealed (account label key main iv : Bytes) (row : FactorRecord) (
     (put : RecordPut) : Type 0 where
   pub made_is : made ≡ with_resealed stash label row key main iv
   pub put_is : IsStashPut account (with_resealed stash label row key main iv) put
+
+-- the loaded state is the one before with the block sealed anew
+abbrev pub KeepsResealed : Bytes → Bytes → Bytes → Bytes → Stored → Stored → Type 0
+KeepsResealed label key main iv stored after = (row : FactorRecord) (stash : Stash)
+    → get stored.factors label ≡ Some row → stored.stash ≡ Some stash
+    → after ≡ record stored { stash = Some (with_resealed stash label row key main iv) }
 
 -- A password's block is sealed anew: the main key is the home's, and the key is derived of the password's secret with
 -- its record's salt and cost. The durable part stays.

@@ -1,15 +1,16 @@
 //! The first password of a home.
 
 ghost use Rattle.std.specs.Prelude.{◌≡◌, ◌≤◌, IsTrue, IsOk, IsErrOf, IfOk, IfErr, OnErr, IsSomeAnd};
+ghost use Rattle.std.specs.FinMap.{len};
 ghost use Rattle.record_names.specs.Names.{is_account_name, is_factor_label};
 ghost use Rattle.share_api.specs.Conditions.{IsOf};
+ghost use Rattle.stored_home.specs.Coherent.{IsCoherent};
 ghost use Rattle.stored_home.specs.Sizes.{IsShort};
 ghost use Rattle.home_edits.specs.Costs.{PutsCost};
 ghost use Rattle.home_edits.specs.Edits.{Edits, IsEditFault};
 ghost use Rattle.home_edits.specs.FirstPasswords.{TakesFirst, IsFirstStash, SetsFirstPassword};
 ghost use Rattle.home_edits.specs.Passwords.{password_row, AreFactorPuts};
 
-use crate::derived::Derived;
 use crate::factor_puts::{FactorPuts, factor_puts};
 use crate::passwords::{commit, new_row, with_block};
 use ct_bytes::{NoMemory, Text};
@@ -18,7 +19,7 @@ use name_map::NameMap;
 use secret_stash::{Payload, Stash};
 use share_api::Share;
 use std::alloc::Global;
-use stored_home::{StoreFault, Stored};
+use stored_home::{Derived, StoreFault, Stored};
 
 /// The keys of a home.
 #[derive(Clone, Copy, Debug)]
@@ -81,6 +82,7 @@ fn prepare_first(
         keys.now.main keys.now.vault ivs.now.block puts.stash) }
     ensures value { IfOk result (λ puts. AreFactorPuts account.now rows.now puts.stash
         (password_row label.now stash.now.next derived.now) puts) }
+    ensures from { 1 ≤ stash.now.next }
 {
     let row = new_row(label, stash.next(), derived)?;
     let made = first_stash(alloc, stash, label, derived, keys, ivs)?;
@@ -113,8 +115,11 @@ pub fn add_first_password<S: Share>(
         (IsOk result) (IsErrOf result StoreFault.Failed)
         (SetsFirstPassword label.now derived.now keys.now.main keys.now.vault) }
     ensures cost { PutsCost (S.seen share.old) (S.seen share.new) account.now derived.now.cost }
+    ensures lost { stored.new.lost ≡ stored.old.lost }
     ensures err { OnErr result (stored.new ≡ stored.old) }
     ensures short { IsShort stored.old → IsShort stored.new }
+    ensures coherent { len stored.old.files ≤ 256 → IsCoherent account.now stored.old
+        → IsCoherent account.now stored.new }
     ensures only { IfErr result IsEditFault }
     ensures calm { IsErrOf result StoreFault.NoMemory → S.seen share.new ≡ S.seen share.old }
     ensures goes { S.goes share.old share.new }

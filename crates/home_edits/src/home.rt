@@ -1,10 +1,12 @@
 //! Making a home.
 
-ghost use Rattle.std.specs.Prelude.{◌≡◌, ◌≤◌, IsTrue, IsOk, IsErrOf, IfOk, IfErr, OnErr, None};
+ghost use Rattle.std.specs.Prelude.{◌≡◌, ℕ, ◌≤◌, IsTrue, IsOk, IsErrOf, IfOk, IfErr, OnErr, None};
 ghost use Rattle.record_names.specs.Names.{is_account_name};
 ghost use Rattle.share_api.specs.Conditions.{IsOf};
 ghost use Rattle.secret_stash.specs.Edits.{new_stash};
+ghost use Rattle.stored_home.specs.Coherent.{IsCoherent};
 ghost use Rattle.stored_home.specs.Sizes.{IsShort};
+ghost use Rattle.home_edits.specs.Costs.{PutsCost};
 ghost use Rattle.home_edits.specs.Edits.{Edits, IsEditFault};
 ghost use Rattle.home_edits.specs.Homes.{MakesHome};
 ghost use Rattle.home_edits.specs.Puts.{IsStashPut};
@@ -47,8 +49,11 @@ pub fn create<S: Share>(
     requires absent { stored.old.stash ≡ None }
     ensures edits { Edits (S.seen share.old) (S.seen share.new) account.now stored.old stored.new
         (IsOk result) (IsErrOf result StoreFault.Failed) MakesHome }
+    ensures cost { (cost : ℕ) → PutsCost (S.seen share.old) (S.seen share.new) account.now cost }
+    ensures lost { stored.new.lost ≡ stored.old.lost }
     ensures err { OnErr result (stored.new ≡ stored.old) }
     ensures short { IsShort stored.old → IsShort stored.new }
+    ensures coherent { IsCoherent account.now stored.old → IsCoherent account.now stored.new }
     ensures only { IfErr result IsEditFault }
     ensures calm { IsErrOf result StoreFault.NoMemory → S.seen share.new ≡ S.seen share.old }
     ensures goes { S.goes share.old share.new }

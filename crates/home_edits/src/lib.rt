@@ -2,7 +2,6 @@
 #![tactic(auto)]
 
 mod commit;
-mod derived;
 mod factor_puts;
 mod files;
 mod first_password;
@@ -11,9 +10,8 @@ mod passwords;
 mod record_put;
 mod reseal;
 
-pub use derived::Derived;
-pub use files::{get_file, put_file};
+pub use files::{FilePut, get_file, put_file, seal_file_put};
 pub use first_password::{HomeKeys, Ivs, add_first_password};
 pub use home::create;
-pub use passwords::{add_password, remove_password, update_password};
+pub use passwords::{add_password, remove_password, update_password, wrap_of};
 pub use reseal::reseal_password;

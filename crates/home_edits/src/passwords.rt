@@ -1,22 +1,22 @@
 //! The edits of passwords.
 
-ghost use Rattle.std.specs.Prelude.{◌≡◌, ◌≤◌, ◌<◌, ◌^◌, ◌-◌, length, IsTrue, IsSome, IsOk, IsErr, IsErrOf, IfOk, IfErr, OnOk, OnErr, IsSomeAnd, None, Some, [], ◌∷◌, take};
+ghost use Rattle.std.specs.Prelude.{◌≡◌, ℕ, ◌≤◌, ◌<◌, ◌^◌, ◌-◌, length, IsTrue, IsSome, IsOk, IsErr, IsErrOf, IfOk, IfErr, OnOk, OnErr, IsSomeAnd, None, Some, [], ◌∷◌, take};
 ghost use Rattle.std.specs.FinMap.{get, len};
 ghost use Rattle.record_names.specs.Names.{is_account_name, is_factor_label, factor_name};
 ghost use Rattle.share_api.specs.Conditions.{IsOf, IsOwnName};
 ghost use Rattle.share_api.specs.Seen.{Tries};
 ghost use Rattle.share_api.specs.declared.step.Write.{Write};
+ghost use Rattle.stored_home.specs.Coherent.{IsCoherent};
 ghost use Rattle.stored_home.specs.Sizes.{IsShort};
 ghost use Rattle.home_edits.specs.Costs.{PutsCost};
 ghost use Rattle.home_edits.specs.Edits.{Edits, IsEditFault};
 ghost use Rattle.factor_files.specs.declared.factor.FactorRecord.{FactorRecord as RowSeen};
 ghost use Rattle.secret_stash.specs.Edits.{without_block};
 ghost use Rattle.home_edits.specs.Puts.{IsStashPut};
-ghost use Rattle.home_edits.specs.Removals.{LosesFactor, RemovesFactor};
+ghost use Rattle.home_edits.specs.Removals.{LosesFactor, RemovesFactor, KeepsPassword};
 ghost use Rattle.home_edits.specs.Passwords.{password_row, with_password, TakesFactor, SetsPassword, AreFactorPuts};
 
 use crate::commit::{put_both, put_then_remove, replace};
-use crate::derived::Derived;
 use crate::factor_puts::{FactorPuts, factor_puts};
 use crate::record_put::{RecordPut, stash_put};
 use account_machine::Kind;
@@ -27,10 +27,10 @@ use record_names::RecordName;
 use secret_stash::Stash;
 use share_api::Share;
 use std::alloc::Global;
-use stored_home::{StoreFault, Stored};
+use stored_home::{Derived, StoreFault, Stored};
 
 /// The wrap key of a password: the first half of what is derived of it.
-pub(crate) fn wrap_of(key: &[u8; 64]) -> [u8; 32]
+pub fn wrap_of(key: &[u8; 64]) -> [u8; 32]
     ensures { result ≡ take 32 key.now }
 {
     let mut wrap = [0u8; 32];
@@ -121,6 +121,7 @@ pub(crate) fn commit<S: Share>(
         (Write.Put puts.row_put.name puts.row_put.bytes ∷ Write.Put puts.stash_put.name puts.stash_put.bytes ∷ [])
         (IsOk result) (IsErr result) }
     ensures ok { OnOk result (stored.new ≡ record stored.old { stash = Some puts.stash; factors = puts.factors }) }
+    ensures lost { stored.new.lost ≡ stored.old.lost }
     ensures err { OnErr result (stored.new ≡ stored.old) }
     ensures only { IsErr result → IsErrOf result StoreFault.Failed }
     ensures goes { S.goes share.old share.new }
@@ -163,8 +164,10 @@ pub fn add_password<S: Share>(
     ensures edits { Edits (S.seen share.old) (S.seen share.new) account.now stored.old stored.new
         (IsOk result) (IsErrOf result StoreFault.Failed) (SetsPassword label.now derived.now main.now) }
     ensures cost { PutsCost (S.seen share.old) (S.seen share.new) account.now derived.now.cost }
+    ensures lost { stored.new.lost ≡ stored.old.lost }
     ensures err { OnErr result (stored.new ≡ stored.old) }
     ensures short { IsShort stored.old → IsShort stored.new }
+    ensures coherent { IsCoherent account.now stored.old → IsCoherent account.now stored.new }
     ensures only { IfErr result IsEditFault }
     ensures calm { IsErrOf result StoreFault.NoMemory → S.seen share.new ≡ S.seen share.old }
     ensures goes { S.goes share.old share.new }
@@ -218,6 +221,7 @@ fn commit_update<S: Share>(
         ∷ Write.Remove old.now ∷ [])
         (IsOk result) (IsErr result) }
     ensures ok { OnOk result (stored.new ≡ record stored.old { stash = Some puts.stash; factors = puts.factors }) }
+    ensures lost { stored.new.lost ≡ stored.old.lost }
     ensures err { OnErr result (stored.new ≡ stored.old) }
     ensures only { IsErr result → IsErrOf result StoreFault.Failed }
     ensures goes { S.goes share.old share.new }
@@ -261,8 +265,10 @@ pub fn update_password<S: Share>(
     ensures edits { Edits (S.seen share.old) (S.seen share.new) account.now stored.old stored.new
         (IsOk result) (IsErrOf result StoreFault.Failed) (SetsPassword label.now derived.now main.now) }
     ensures cost { PutsCost (S.seen share.old) (S.seen share.new) account.now derived.now.cost }
+    ensures lost { stored.new.lost ≡ stored.old.lost }
     ensures err { OnErr result (stored.new ≡ stored.old) }
     ensures short { IsShort stored.old → IsShort stored.new }
+    ensures coherent { IsCoherent account.now stored.old → IsCoherent account.now stored.new }
     ensures only { IfErr result IsEditFault }
     ensures calm { IsErrOf result StoreFault.NoMemory → S.seen share.new ≡ S.seen share.old }
     ensures goes { S.goes share.old share.new }
@@ -333,8 +339,12 @@ pub fn remove_password<S: Share>(
     requires known { IsSomeAnd (get stored.old.factors label.now) (λ row. row.leaf ≡ None) }
     ensures edits { Edits (S.seen share.old) (S.seen share.new) account.now stored.old stored.new
         (IsOk result) (IsErrOf result StoreFault.Failed) (RemovesFactor label.now) }
+    ensures cost { (cost : ℕ) → PutsCost (S.seen share.old) (S.seen share.new) account.now cost }
+    ensures lost { stored.new.lost ≡ stored.old.lost }
     ensures err { OnErr result (stored.new ≡ stored.old) }
     ensures short { IsShort stored.old → IsShort stored.new }
+    ensures coherent { KeepsPassword label.now stored.old.factors → IsCoherent account.now stored.old
+        → IsCoherent account.now stored.new }
     ensures only { IfErr result IsEditFault }
     ensures calm { IsErrOf result StoreFault.NoMemory → S.seen share.new ≡ S.seen share.old }
     ensures goes { S.goes share.old share.new }

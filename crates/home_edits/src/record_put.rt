@@ -6,7 +6,7 @@ ghost use Rattle.stash_format.specs.Kept.{HasBoth};
 ghost use Rattle.stash_format.specs.Sizes.{payload_size, most_payload};
 ghost use Rattle.vault_crypt.specs.VaultFile.{IsFileName};
 ghost use Rattle.stored_home.specs.Holds.{IsFileOf};
-ghost use Rattle.home_edits.specs.Puts.{IsStashPut, IsFilePut};
+ghost use Rattle.home_edits.specs.Puts.{IsStashPut};
 
 use ct_bytes::{Blob, NoMemory};
 use record_names::RecordName;
@@ -47,8 +47,8 @@ pub(crate) fn file_record(account: &str, name: &str) -> RecordName
     RecordName::file(account, name)
 }
 
-// A vault file's bytes as its record has them.
-fn file_bytes(
+/// A vault file's bytes as its record has them.
+pub(crate) fn file_bytes(
     alloc: Global,
     account: &str,
     name: &str,
@@ -66,23 +66,4 @@ fn file_bytes(
         Ok(sealed) => Ok(sealed),
         Err(_) => Err(NoMemory),
     }
-}
-
-/// A vault file's record: its bytes under the vault key.
-pub(crate) fn file_put(
-    alloc: Global,
-    account: &str,
-    name: &str,
-    vault: &[u8; 32],
-    iv: [u8; 12],
-    bytes: &[u8],
-) -> Result<RecordPut, NoMemory>
-    requires plain { IsTrue (is_account_name account.now) }
-    requires name { IsFileName name.now }
-    requires size { length bytes.now ≤ MAX_FILE }
-    ensures value { IfOk result (λ put. IsFilePut vault.now account.now name.now bytes.now put) }
-{
-    let bytes = file_bytes(alloc, account, name, vault, &iv, bytes)?;
-    let name = file_record(account, name);
-    Ok(RecordPut { name, bytes })
 }

@@ -1,14 +1,16 @@
 //! Sealing a password's block anew.
 
-ghost use Rattle.std.specs.Prelude.{◌≡◌, ◌≤◌, IsTrue, IsOk, IsErrOf, IfOk, IfErr, OnErr, IsSomeAnd, Some};
+ghost use Rattle.std.specs.Prelude.{◌≡◌, ℕ, ◌≤◌, IsTrue, IsOk, IsErrOf, IfOk, IfErr, OnErr, IsSomeAnd, Some};
 ghost use Rattle.std.specs.FinMap.{get};
 ghost use Rattle.record_names.specs.Names.{is_account_name, is_factor_label};
 ghost use Rattle.factor_files.specs.declared.factor.FactorRecord.{FactorRecord as RowSeen};
 ghost use Rattle.stash_format.specs.declared.contents.Contents.{Contents as StashSeen};
 ghost use Rattle.share_api.specs.Conditions.{IsOf};
+ghost use Rattle.stored_home.specs.Coherent.{IsCoherent};
 ghost use Rattle.stored_home.specs.Sizes.{IsShort};
+ghost use Rattle.home_edits.specs.Costs.{PutsCost};
 ghost use Rattle.home_edits.specs.Edits.{Edits, IsEditFault};
-ghost use Rattle.home_edits.specs.Reseals.{TakesReseal, IsResealed, Reseals, with_resealed};
+ghost use Rattle.home_edits.specs.Reseals.{TakesReseal, IsResealed, Reseals, KeepsResealed, with_resealed};
 
 use crate::commit::put_one;
 use crate::passwords::wrap_of;
@@ -84,10 +86,14 @@ pub fn reseal_password<S: Share>(
         (λ row. IsSomeAnd stored.old.stash (TakesReseal label.now row)) }
     ensures edits { Edits (S.seen share.old) (S.seen share.new) account.now stored.old stored.new
         (IsOk result) (IsErrOf result StoreFault.Failed) (Reseals account.now label.now key.now main.now) }
+    ensures cost { (cost : ℕ) → PutsCost (S.seen share.old) (S.seen share.new) account.now cost }
+    ensures lost { stored.new.lost ≡ stored.old.lost }
     ensures err { OnErr result (stored.new ≡ stored.old) }
     ensures short { IsShort stored.old → IsShort stored.new }
+    ensures coherent { IsCoherent account.now stored.old → IsCoherent account.now stored.new }
     ensures only { IfErr result IsEditFault }
     ensures calm { IsErrOf result StoreFault.NoMemory → S.seen share.new ≡ S.seen share.old }
+    ensures ok { IsOk result → KeepsResealed label.now key.now main.now iv stored.old stored.new }
     ensures goes { S.goes share.old share.new }
 {
     let (made, put) = prepare_reseal(stored, account, label, key, main, iv)?;

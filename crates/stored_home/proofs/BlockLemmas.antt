@@ -162,7 +162,7 @@ module _ (lost : Bool) (account : Bytes) (keys : Keys) (contents : Contents) (la
     };
     resets = resets;
     blocks = blocks_set;
-    apart = λ found. apart_set own (h.apart found);
+    apart = apart_set own h.apart;
     bare = λ none. absurd (some_not_None payload some none);
     bounds = λ _. bounds;
     payload = λ _. opened;
@@ -243,7 +243,7 @@ module _ (lost : Bool) (account : Bytes) (keys : Keys) (contents : Contents) (la
     sound = record { within = h.sound.within; blocks = sound_without };
     resets = h.resets;
     blocks = blocks_without;
-    apart = λ found one two tree p q. h.apart found one two tree (named_before one tree p) (named_before two tree q);
+    apart = λ one two tree p q. h.apart one two tree (named_before one tree p) (named_before two tree q);
     bare = λ none. absurd (some_not_None stash.payload some none);
     bounds = λ _. bounds;
     payload = h.payload;

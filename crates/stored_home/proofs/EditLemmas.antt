@@ -147,7 +147,7 @@ module _ (account : Bytes) (keys : Keys) (contents : Contents) (durable : Durabl
     (names : old_row.leaf ≡ Some tree) where
   -- only the label names its leaf
   only_own : (q : Bytes) → NamesLeaf contents.records account durable.factors q tree → q ≡ label
-  only_own q n = h.apart refl q label tree n
+  only_own q n = h.apart q label tree n
       (record { factor = old; row = old_row; there = at; read = read; names = names })
 
   -- once the factor is removed, no record names its leaf

@@ -117,7 +117,7 @@ module _ (lost : Bool) (account : Bytes) (keys : Keys) where
         (block_stays lost account keys.main h.resets old.records new.records old.leaves label block factor
         (same label factor y) b))
         (h.blocks label);
-    apart = λ found. apart_stays old.records new.records account durable.factors same (h.apart found);
+    apart = apart_stays old.records new.records account durable.factors same h.apart;
     bare = h.bare;
     bounds = h.bounds;
     payload = h.payload;

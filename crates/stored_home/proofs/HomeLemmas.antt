@@ -51,7 +51,7 @@ module _ (lost : Bool) (account : Bytes) (keys : Keys) (plain : IsTrue (is_accou
     blocks = λ q. subst (λ x. Matches (IsBlockOf lost contents.records contents.leaves account keys.main empty q) x (get (empty {X = Factor} {R = slice_cmp nat_cmp}) q))
         (sym (none_at Block q))
         (subst (λ y. Matches (IsBlockOf lost contents.records contents.leaves account keys.main empty q) None y) (sym (none_at Factor q)) tt);
-    apart = λ _ one two tree p q. absurd (not_None p.factor (sym p.there ∙ none_at Factor one));
+    apart = λ one two tree p q. absurd (not_None p.factor (sym p.there ∙ none_at Factor one));
     bare = λ _. (refl, refl);
     bounds = λ some. absurd (nothing some);
     payload = λ some. absurd (nothing some);
@@ -122,7 +122,7 @@ module _ (lost : Bool) (account : Bytes) (keys : Keys) (plain : IsTrue (is_accou
           (λ block factor x y b. block_stays lost account keys.main h.resets contents.records (put contents).records
           contents.leaves label block factor (same label factor y) b)
           (h.blocks label);
-      apart = λ found. apart_stays contents.records (put contents).records account durable.factors same (h.apart found);
+      apart = apart_stays contents.records (put contents).records account durable.factors same h.apart;
       bare = λ none. absurd (some_not_None stash.payload some none);
       bounds = λ _. bounds;
       payload = h.payload;

@@ -290,7 +290,7 @@ module _ (account : Bytes) (keys : Keys) (contents : Contents) (durable : Durabl
   other_block q block f away at b = block_with_leaf false contents.records contents.leaves leaves_after account keys.main
       h.resets q block f
       (λ r r_read _ t t_names. leaf_other contents.leaves tree (leaf_counted leaf wrong last) t
-      (λ same. away (h.apart refl q label tree
+      (λ same. away (h.apart q label tree
       (record { factor = f; row = r; there = at; read = r_read; names = t_names ∙ ap (λ (x : ℕ). Some x) same })
       (record { factor = factor; row = row; there = there; read = read; names = names })))) b
 
@@ -354,7 +354,7 @@ module _ (account : Bytes) (keys : Keys) (contents : Contents) (durable : Durabl
     sound = h.sound;
     resets = h.resets;
     blocks = blocks_after;
-    apart = λ _ one two t p q. h.apart refl one two t (named_before one t p) (named_before two t q);
+    apart = λ one two t p q. h.apart one two t (named_before one t p) (named_before two t q);
     bare = λ none. absurd (some_not_None stash.payload some none);
     bounds = λ _. bounds_same durable label factor factor_after there refl (h.bounds some);
     payload = h.payload;

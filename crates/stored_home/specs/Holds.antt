@@ -146,7 +146,8 @@ pub record HoldsBy (lost : Bool) (contents : Contents) (account : Bytes) (durabl
   pub blocks : (label : Bytes) → Matches
       (IsBlockOf lost contents.records contents.leaves account keys.main resets label)
       (get stash.blocks label) (get durable.factors label)
-  pub apart : lost ≡ false → AreApart contents.records account durable.factors
+  -- also where the tree is lost
+  pub apart : AreApart contents.records account durable.factors
   -- a home without factors has no file
   pub bare : stash.payload ≡ None → (stash.blocks ≡ empty) × (durable.files ≡ empty)
   -- a home with factors

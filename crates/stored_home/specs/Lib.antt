@@ -8,3 +8,4 @@ pub mod Adding
 pub mod EditLaws
 pub mod Clean
 pub mod Sizes
+pub mod Coherent

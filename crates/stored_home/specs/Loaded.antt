@@ -4,6 +4,7 @@ use Rattle.std.specs.Ordering.{nat_cmp}
 use Rattle.std.specs.Cmp.Lexicographic.{slice_cmp}
 use Rattle.std.specs.FinMap.{FinMap, get}
 use Rattle.record_names.specs.Names.{AreParts, File, stash_name, factor_name, file_name}
+use Rattle.share_api.specs.Conditions.{IsFiledName}
 use Rattle.share_api.specs.Contents.{Bytes, Contents, Records}
 use Rattle.stash_format.specs.declared.block.Block.{Block}
 use Rattle.stash_format.specs.declared.contents.Contents.{Contents as Stash}
@@ -58,9 +59,10 @@ abbrev pub NamesTree : Stored → ℕ → Type 0
 NamesTree loaded tree =
     (label : Bytes) × (row : FactorRecord) × (get loaded.factors label ≡ Some row) × (row.leaf ≡ Some tree)
 
--- nothing is there that the loaded state doesn't name
+-- nothing of the account is there that the loaded state doesn't name
 pub record IsTidy (lost : Bool) (contents : Contents) (account : Bytes) (loaded : Stored) : Type 0 where
-  pub records : (name : Bytes) → IsSome (get contents.records name) → IsNamed account loaded name
+  pub records : (name : Bytes) → IsFiledName account name → IsSome (get contents.records name)
+      → IsNamed account loaded name
   pub leaves : lost ≡ false → (tree : ℕ) → IsSome (get contents.leaves tree) → NamesTree loaded tree
 
 -- the loaded state is that of the contents, nothing else is there, and no leaf is in doubt

@@ -1,10 +1,12 @@
 //! What an account's records and leaves hold, and that each edit of a home is done whole or not at all.
 #![tactic(auto)]
 
+mod derived;
 mod fault;
 mod laws;
 mod stored;
 
+pub use derived::Derived;
 pub use fault::StoreFault;
 pub use laws::{
     block_is_sealed_anew, factor_is_added, factor_is_removed, factor_is_updated, home_is_made,

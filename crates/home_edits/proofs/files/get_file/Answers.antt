@@ -1,10 +1,11 @@
-use Rattle.std.proofs.Common.{Err, sym, subst}
+use Rattle.std.proofs.Common.{Err, refl, sym, subst}
 use Rattle.record_names.specs.Names.{Bytes}
 use Rattle.share_api.specs.Replies.{found_reply}
 use Rattle.share_api.specs.Seen.{Makes, step_of}
 use Rattle.share_api.specs.declared.step.Op.TheVariants.{Get}
 use Rattle.stored_home.specs.declared.fault.StoreFault.{StoreFault}
 use Rattle.home_edits.specs.Files.{ReadsFile, Shows, IsReadFileFault, file_in}
+use Rattle.home_edits.proofs.CostLemmas.{costs_read}
 use Rattle.home_edits.proofs.FileReads.{read_answered, read_told, told_only}
 use Rattle.home_edits.proofs.files.get_file.Goals as goal
 
@@ -39,3 +40,14 @@ returns-in-Err-clause-reads g c =
 pub returns-in-Err-clause-only : goal.returns-in-Err-clause-only
 returns-in-Err-clause-only g c = subst IsReadFileFault (sym c.told_fault.ensures.value)
     (told_only c.in-Err.fault c.in-Err.ensures.only)
+
+-- nothing is put
+pub returns-in-Ok-clause-cost : goal.returns-in-Ok-clause-cost
+returns-in-Ok-clause-cost g c = λ cost.
+    costs_read (g.S.Share.seen c.args.share.now) (g.S.Share.seen c.get.new.self) c.args.account.now
+    c.file_record-named.result cost _ c.get.ensures.made refl
+
+pub returns-in-Err-clause-cost : goal.returns-in-Err-clause-cost
+returns-in-Err-clause-cost g c = λ cost.
+    costs_read (g.S.Share.seen c.args.share.now) (g.S.Share.seen c.get.new.self) c.args.account.now
+    c.file_record-named.result cost _ c.get.ensures.made refl

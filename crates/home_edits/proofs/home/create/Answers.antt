@@ -1,5 +1,9 @@
-use Rattle.std.proofs.Common.{IsOk, IsErr, Some, ap, is_ok, is_err, arith}
+use Rattle.std.proofs.Common.{[], ◌∷◌, sym, subst, IsOk, IsErr, Some, ap, is_ok, is_err, arith}
 use Rattle.stash_format.specs.declared.contents.Contents.{Contents as Stash}
+use Rattle.share_api.specs.declared.step.Write.TheVariants.{Put}
+use Rattle.home_edits.proofs.CostLemmas.{costs_none, costs_tried, stash_suits}
+use Rattle.home_edits.proofs.CoherentEdits.{made_coherent}
+use Rattle.stored_home.specs.Coherent.{IsCoherent}
 use Rattle.home_edits.specs.Homes.{MakesHome}
 use Rattle.home_edits.proofs.Edited.{edits_none, err_not_ok, ok_not_fault, memory_not_failed}
 use Rattle.home_edits.proofs.HomeEdits.{create_edits}
@@ -39,3 +43,29 @@ returns-clause-edits g c =
 pub returns-clause-short : goal.returns-clause-short
 returns-clause-short g c = λ _. short_as (new_stash c.args.account.now) c.in_ok-stash.stash c.in_ok-stash.ensures.stash
     (omega arith)
+
+-- nothing was put
+pub returns-in_err-stash-clause-cost : goal.returns-in_err-stash-clause-cost
+returns-in_err-stash-clause-cost g c = λ cost. costs_none (g.S.Share.seen c.args.share.now) c.args.account.now cost
+
+-- no factor's record was put
+pub returns-in_err-put_one-clause-cost : goal.returns-in_err-put_one-clause-cost
+returns-in_err-put_one-clause-cost g c = λ cost.
+    costs_tried (g.S.Share.seen c.args.share.now) (g.S.Share.seen c.put_one.new.share) c.args.account.now cost
+    (Put c.in_ok-stash.put.name c.in_ok-stash.put.bytes ∷ []) (IsOk c.put_one.result)
+    (IsErr c.put_one.result) c.put_one.ensures.tried
+    (stash_suits c.args.account.now c.in_ok-stash.put.name c.in_ok-stash.put.bytes cost c.in_ok-stash.ensures.put.0, tt)
+
+pub returns-clause-cost : goal.returns-clause-cost
+returns-clause-cost g c = λ cost.
+    costs_tried (g.S.Share.seen c.args.share.now) (g.S.Share.seen c.put_one.new.share) c.args.account.now cost
+    (Put c.in_ok-stash.put.name c.in_ok-stash.put.bytes ∷ []) (IsOk c.put_one.result)
+    (IsErr c.put_one.result) c.put_one.ensures.tried
+    (stash_suits c.args.account.now c.in_ok-stash.put.name c.in_ok-stash.put.bytes cost c.in_ok-stash.ensures.put.0, tt)
+
+-- a new home fits together
+pub returns-clause-coherent : goal.returns-clause-coherent
+returns-clause-coherent g c = λ was.
+    subst (λ (s : Stash). IsCoherent c.args.account.now (record c.args.stored.now { stash = Some s }))
+    (sym c.in_ok-stash.ensures.stash)
+    (made_coherent c.args.account.now c.args.stored.now was c.requires.absent)

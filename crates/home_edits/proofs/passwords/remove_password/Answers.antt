@@ -1,6 +1,12 @@
-use Rattle.std.proofs.Common.{◌≡◌, IsOk, IsErr, None, Some, ap, inl, inr, is_ok, is_err}
+use Rattle.std.proofs.Common.{[], ◌∷◌, sym, subst, ◌≡◌, IsOk, IsErr, None, Some, ap, inl, inr, is_ok, is_err}
 use Rattle.std.specs.FinMap.{get}
 use Rattle.factor_files.specs.declared.factor.FactorRecord.{FactorRecord}
+use Rattle.share_api.specs.declared.step.Write.TheVariants.{Put, Remove}
+use Rattle.home_edits.proofs.CostLemmas.{costs_none, costs_tried, stash_suits, removal_suits}
+use Rattle.home_edits.proofs.CoherentEdits.{removed_coherent}
+use Rattle.stored_home.specs.Coherent.{IsCoherent}
+use Rattle.stored_home.specs.Loaded.{Rows}
+use Rattle.stash_format.specs.declared.contents.Contents.{Contents as Stash}
 use Rattle.home_edits.specs.Removals.{LosesFactor, RemovesFactor}
 use Rattle.home_edits.proofs.Edited.{edits_none, err_not_ok, ok_not_fault, memory_not_failed, there_gives, there_some}
 use Rattle.home_edits.proofs.FactorRemoved.{remove_edits}
@@ -68,3 +74,37 @@ returns-clause-short g c = λ _.
     short_as (without_block c.in-Some.stash c.args.label.now) c.in_ok-stash.stash c.in_ok-stash.ensures.stash
     (there_gives (LosesFactor c.args.label.now) c.args.stored.now.stash c.in-Some.stash c.in-Some.is
     c.requires.home).short
+
+-- nothing was put
+pub returns-in_err-stash-clause-cost : goal.returns-in_err-stash-clause-cost
+returns-in_err-stash-clause-cost g c = λ cost. costs_none (g.S.Share.seen c.args.share.now) c.args.account.now cost
+
+-- no factor's record was put
+pub returns-in_err-put_then_remove-clause-cost : goal.returns-in_err-put_then_remove-clause-cost
+returns-in_err-put_then_remove-clause-cost g c = λ cost.
+    costs_tried (g.S.Share.seen c.args.share.now) (g.S.Share.seen c.put_then_remove.new.share) c.args.account.now cost
+    (Put c.in_ok-stash.put.name c.in_ok-stash.put.bytes ∷ Remove c.record_of-old.result ∷ []) (IsOk c.put_then_remove.result)
+    (IsErr c.put_then_remove.result) c.put_then_remove.ensures.tried (
+      stash_suits c.args.account.now c.in_ok-stash.put.name c.in_ok-stash.put.bytes cost c.in_ok-stash.ensures.put.0,
+      (removal_suits c.args.account.now c.record_of-old.result cost, tt),
+    )
+
+pub returns-clause-cost : goal.returns-clause-cost
+returns-clause-cost g c = λ cost.
+    costs_tried (g.S.Share.seen c.args.share.now) (g.S.Share.seen c.put_then_remove.new.share) c.args.account.now cost
+    (Put c.in_ok-stash.put.name c.in_ok-stash.put.bytes ∷ Remove c.record_of-old.result ∷ []) (IsOk c.put_then_remove.result)
+    (IsErr c.put_then_remove.result) c.put_then_remove.ensures.tried (
+      stash_suits c.args.account.now c.in_ok-stash.put.name c.in_ok-stash.put.bytes cost c.in_ok-stash.ensures.put.0,
+      (removal_suits c.args.account.now c.record_of-old.result cost, tt),
+    )
+
+-- what is left fits together
+pub returns-clause-coherent : goal.returns-clause-coherent
+returns-clause-coherent g c = λ left was.
+    let loses = there_gives (LosesFactor c.args.label.now) c.args.stored.now.stash c.in-Some.stash c.in-Some.is
+    c.requires.home in
+    subst (λ (pair : Stash × Rows). IsCoherent c.args.account.now
+    (record c.args.stored.now { stash = Some pair.0; factors = pair.1 }))
+    (λ i. (sym c.in_ok-stash.ensures.stash i, sym c.remove.ensures i))
+    (removed_coherent c.args.account.now c.args.stored.now was c.in-Some.stash c.in-Some.is c.args.label.now loses.there
+    loses.others left)

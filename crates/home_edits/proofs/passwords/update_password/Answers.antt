@@ -1,10 +1,15 @@
-use Rattle.std.proofs.Common.{[], ◌∷◌, refl, ◌≡◌, IsOk, IsErr, None, Some, inl, inr}
+use Rattle.std.proofs.Common.{sym, subst, [], ◌∷◌, refl, ◌≡◌, IsOk, IsErr, None, Some, inl, inr}
 use Rattle.std.specs.Prelude.{IsErrOf}
 use Rattle.std.specs.FinMap.{get}
 use Rattle.factor_files.specs.declared.factor.FactorRecord.{FactorRecord}
 use Rattle.share_api.specs.declared.step.Write.TheVariants.{Put, Remove}
 use Rattle.stored_home.specs.declared.fault.StoreFault.TheVariants as faults
-use Rattle.home_edits.specs.Passwords.{SetsPassword, TakesFactor, password_row, with_password}
+use Rattle.stash_format.specs.declared.contents.Contents.{Contents as Stash}
+use Rattle.stored_home.specs.Coherent.{IsCoherent}
+use Rattle.stored_home.specs.Loaded.{Rows}
+use Rattle.home_edits.specs.Passwords.{SetsPassword, TakesFactor, password_row, password_block, with_password}
+use Rattle.home_edits.proofs.CoherentEdits.{coherent_stays, set_coherent}
+use Rattle.home_edits.proofs.StashLemmas.{both_with}
 use Rattle.home_edits.proofs.CostLemmas.{costs_none, costs_tried, row_suits, stash_suits, removal_suits}
 use Rattle.home_edits.proofs.Edited.{edits_none, err_not_ok, memory_not_failed, fault_is_err, ok_gives, there_gives, there_some}
 use Rattle.home_edits.proofs.PasswordEdits.{update_edits}
@@ -88,3 +93,36 @@ returns-clause-short g c =
     c.in_ok-puts.ensures.value.stash_is
     (there_gives (TakesFactor c.args.label.now) c.args.stored.now.stash c.in-Some.stash c.in-Some.is
     c.requires.home).short)
+
+-- the new block and its record fit together
+pub returns-clause-coherent : goal.returns-clause-coherent
+returns-clause-coherent g c = λ was.
+    let puts = c.in_ok-puts.puts in
+    let are = c.in_ok-puts.ensures.value in
+    let takes = there_gives (TakesFactor c.args.label.now) c.args.stored.now.stash c.in-Some.stash c.in-Some.is
+    c.requires.home in
+    coherent_stays c.args.account.now c.commit_update.result c.args.stored.now c.commit_update.new.stored
+    (record c.args.stored.now { stash = Some puts.stash; factors = puts.factors })
+    c.commit_update.ensures.ok c.commit_update.ensures.err
+    (subst (λ (pair : Stash × Rows). IsCoherent c.args.account.now
+    (record c.args.stored.now { stash = Some pair.0; factors = pair.1 }))
+    (λ i. (sym are.stash_is i, sym are.factors_are i))
+    (set_coherent c.args.account.now c.args.stored.now was c.in-Some.stash c.in-Some.is
+    (with_password c.in-Some.stash c.args.label.now c.args.derived.now c.args.main.now c.args.iv) c.args.label.now
+    (password_block c.in-Some.stash c.args.label.now c.args.derived.now c.args.main.now c.args.iv)
+    (password_row c.args.label.now c.in-Some.stash.next c.args.derived.now) refl refl
+    (both_with c.in-Some.stash c.in-Some.stash.payload c.args.label.now
+    (password_block c.in-Some.stash c.args.label.now c.args.derived.now c.args.main.now c.args.iv) takes.there)
+    takes.short
+    (record {
+      plain = record {
+        label = c.requires.label;
+        edition = takes.from;
+        cost = c.requires.least;
+        most = c.requires.most;
+        leaf = tt;
+      };
+      label_is = refl;
+      edition_is = refl;
+    }) refl refl takes.there))
+    was
