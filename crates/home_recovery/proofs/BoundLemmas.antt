@@ -1,8 +1,8 @@
 -- A home keeps its bounds, or breaks one of them, by the tests of its rows.
-use Rattle.std.proofs.Common.{◌≡◌, ◌≢◌, ℕ, zero, suc, ◌+◌, ◌<◌, ◌≤◌, Bool, true, false, cond, List, [], ◌∷◌, map, Option, None, Some, refl, sym, ap, ◌∙◌, subst, inl, inr, ⊎_elim, ◌⊎◌, true≢false, eq-eqb, arith}
-use Rattle.std.specs.Prelude.{◌&&◌, ◌||◌, not, nat_le, slice_get, bytes_eq, count_by, ◌==◌}
+use Rattle.std.proofs.Common.{◌≡◌, ◌≢◌, ℕ, zero, suc, ◌+◌, ◌<◌, Bool, true, false, cond, List, [], ◌∷◌, map, Option, None, Some, refl, sym, ap, ◌∙◌, inl, inr, ⊎_elim, true≢false, eq-eqb, arith}
+use Rattle.std.specs.Prelude.{◌&&◌, ◌||◌, not, nat_le, slice_get, bytes_eq, count_by}
 use Rattle.std.specs.List.{list_any, fold}
-use Rattle.std.specs.FinMap.{FinMap, get, entries, values, len}
+use Rattle.std.specs.FinMap.{get, entries, len}
 use Rattle.std.proofs.lemmas.Bool.{and_parts, leb-true, leb-false}
 use Rattle.std.proofs.lemmas.Slice.Eq.{bytes_eq-Decides}
 use Rattle.account_machine.specs.Outline.{is_pin_kind, is_password_kind}
@@ -10,10 +10,10 @@ use Rattle.account_machine.specs.declared.factor.Kind.{Kind}
 use Rattle.account_machine.specs.declared.factor.Kind.TheVariants.{Password, Pin}
 use Rattle.factor_files.specs.declared.factor.FactorRecord.{FactorRecord}
 use Rattle.share_api.specs.Contents.{Bytes}
-use Rattle.stored_home.specs.Loaded.{Rows}
 use Rattle.stored_home.specs.declared.stored.Stored.{Stored}
 use Rattle.stored_home.proofs.MapLemmas.{either, not_None, from_some, same_or_apart}
-use Rattle.home_recovery.specs.Bounds.{pin_rows, RowNames, HaveOwnLeaves, KeepsBounds, ShareLeaf, BreaksBounds}
+use Rattle.home_recovery.specs.Bounds.{ShareLeaf, BreaksBounds}
+use Rattle.stored_home.specs.Coherent.{pin_rows, HaveOwnLeaves, KeepsBounds}
 use Rattle.home_recovery.specs.Home.{Row, is_one_leaf, is_rival}
 use Rattle.home_recovery.proofs.RowLemmas.{get_place, get_of_place}
 
@@ -21,12 +21,12 @@ fold-map : {A B C : Type 0} (g : C → B → C) (f : A → B) (z : C) (xs : List
 fold-map g f z [] = refl
 fold-map g f z (x ∷ xs) = fold-map g f (g z (f x)) xs
 
-count_by-map : {A B : Type 0} (p : B → Bool) (f : A → B) (xs : List A) → count_by p (map f xs) ≡ count_by (λ x. p (f x)) xs
+pub count_by-map : {A B : Type 0} (p : B → Bool) (f : A → B) (xs : List A) → count_by p (map f xs) ≡ count_by (λ x. p (f x)) xs
 count_by-map p f xs = fold-map (λ n x. n + cond (p x) 1 0) f 0 xs
 
 module _ {X : Type 0} (p : X → Bool) where
   -- where one passes, it stands at a place
-  any_true : (xs : List X) → list_any p xs ≡ true → (i : ℕ) × (x : X) × (slice_get xs i ≡ Some x) × (p x ≡ true)
+  pub any_true : (xs : List X) → list_any p xs ≡ true → (i : ℕ) × (x : X) × (slice_get xs i ≡ Some x) × (p x ≡ true)
   any_true [] e = absurd (true≢false (sym e))
   any_true (x ∷ xs) e = ⊎_elim
       (λ here. (zero, x, refl, here))
@@ -46,7 +46,7 @@ module _ {X : Type 0} (p : X → Bool) where
   or_second false b e = e
 
   -- where none passes, this one doesn't
-  any_false : (xs : List X) (i : ℕ) (x : X) → list_any p xs ≡ false → slice_get xs i ≡ Some x → p x ≡ false
+  pub any_false : (xs : List X) (i : ℕ) (x : X) → list_any p xs ≡ false → slice_get xs i ≡ Some x → p x ≡ false
   any_false [] i x e at = absurd (not_None x (sym at))
   any_false (y ∷ xs) zero x e at = ap p (sym (from_some y x at)) ∙ or_first (p y) (list_any p xs) e
   any_false (y ∷ xs) (suc i) x e at = any_false xs i x (or_second (p y) (list_any p xs) e) at
@@ -56,14 +56,14 @@ password_is Password e = refl
 password_is Pin e = absurd (true≢false (sym e))
 
 -- two leaves that are one
-one_leaf : (x y : Option ℕ) → is_one_leaf x y ≡ true → (tree : ℕ) × (x ≡ Some tree) × (y ≡ Some tree)
+pub one_leaf : (x y : Option ℕ) → is_one_leaf x y ≡ true → (tree : ℕ) × (x ≡ Some tree) × (y ≡ Some tree)
 one_leaf None y e = absurd (true≢false (sym e))
 one_leaf (Some a) None e = absurd (true≢false (sym e))
 one_leaf (Some a) (Some b) e =
     let same : a ≡ b = Rattle.std.proofs.lemmas.Bool.eqb-true a b e in
     (a, refl, ap (λ (n : ℕ). Some n) (sym same))
 
-same_leaf : (x y : Option ℕ) (tree : ℕ) → x ≡ Some tree → y ≡ Some tree → is_one_leaf x y ≡ true
+pub same_leaf : (x y : Option ℕ) (tree : ℕ) → x ≡ Some tree → y ≡ Some tree → is_one_leaf x y ≡ true
 same_leaf x y tree p q =
     ap (λ o. is_one_leaf o y) p ∙ ap (λ o. is_one_leaf (Some tree) o) q ∙ eq-eqb tree tree refl
 
@@ -71,7 +71,7 @@ not_true : (b : Bool) → not b ≡ true → b ≡ false
 not_true true e = absurd (true≢false (sym e))
 not_true false e = refl
 
-not_false : (b : Bool) → not b ≡ false → b ≡ true
+pub not_false : (b : Bool) → not b ≡ false → b ≡ true
 not_false true e = refl
 not_false false e = absurd (true≢false e)
 

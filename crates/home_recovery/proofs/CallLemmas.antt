@@ -1,6 +1,6 @@
 -- What single reads of a share tell.
-use Rattle.std.proofs.Common.{◌≡◌, ℕ, ◌+◌, ◌≤◌, List, Option, None, Some, Result, Ok, Err, Bool, true, false, refl, sym, ap, ◌∙◌, subst, ⊎_elim, IsOk, true≢false, is_some}
-use Rattle.std.specs.Prelude.{IsErrOf, IfErr, IfOk, option_map}
+use Rattle.std.proofs.Common.{◌≡◌, ℕ, ◌+◌, ◌≤◌, Option, None, Some, Result, Ok, Err, true, false, refl, sym, ap, subst, IsOk, true≢false, is_some}
+use Rattle.std.specs.Prelude.{IsErrOf, IfErr, option_map}
 use Rattle.std.specs.FinMap.{get}
 use Rattle.share_api.specs.Conditions.{IsReadFault, IsLeafFault, TellsLoss}
 use Rattle.share_api.specs.Contents.{Bytes, Contents}
@@ -16,8 +16,7 @@ use Rattle.share_api.specs.declared.step.Reply.{Reply}
 use Rattle.share_api.specs.declared.step.Reply.TheVariants.{Found, Viewed, Failed, NoMemory, TreeLost}
 use Rattle.stored_home.specs.declared.fault.StoreFault.{StoreFault}
 use Rattle.stored_home.specs.declared.fault.StoreFault.TheVariants as faults
-use Rattle.stored_home.specs.declared.stored.LostTree.{LostTree}
-use Rattle.home_recovery.specs.Parts.{TellsBytes, TellsLeaf, there_of, loss_of}
+use Rattle.home_recovery.specs.Parts.{TellsBytes, TellsLeaf, TellsView, there_of, loss_of}
 use Rattle.home_recovery.specs.Reading.{Reads}
 use Rattle.home_recovery.specs.Told.{told, IsPlainFault}
 use Rattle.home_recovery.proofs.ReadLemmas.{reads_one, reads_as, reads_then}
@@ -101,6 +100,23 @@ leaf_read old new label (Err (shares.TreeLost host chip)) made only tells whole 
     the_same x = refl
 leaf_read old new label (Err (shares.Damaged other)) made only tells whole = absurd only
 leaf_read old new label (Err shares.NoMemory) made only tells whole = absurd only
+
+-- what anybody may know of a leaf
+pub view_read : (old new : ShareSeen) (label : ℕ) (r : Result (Option LeafView) ShareFault)
+    → Makes old new (step_of old 0 (LookLeaf label) (view_reply r)) → IfErr r IsLeafFault → TellsLoss old.lost r → old.lost ≡ None
+    → Reads old new (IsOk (told r)) (IsErrOf (told r) faults.Failed) 1 (TellsView label (told r))
+view_read old new label (Ok view) made only tells whole = reads_one old new (step_of old 0 (LookLeaf label) (Viewed view)) _ _ (TellsView label (Ok view)) made tt
+    (λ _. viewed_went view) (λ f. absurd (no_err view faults.Failed f))
+    (λ c clear l. sym (same_view view (option_map view_of (get c.leaves label)) l.0))
+view_read old new label (Err shares.Failed) made only tells whole = reads_one old new (step_of old 0 (LookLeaf label) Failed) _ _ (TellsView label (Err faults.Failed)) made tt
+    (λ o. absurd (not_ok o)) (λ _. refl) (λ c clear l. tt)
+view_read old new label (Err (shares.TreeLost host chip)) made only tells whole =
+    absurd (subst (λ lost. TellsLoss {A = Option LeafView} lost (Err (shares.TreeLost host chip))) whole tells host chip (the_same (Err (shares.TreeLost host chip))))
+  where
+    the_same : (x : Result (Option LeafView) ShareFault) → x ≡ x
+    the_same x = refl
+view_read old new label (Err (shares.Damaged other)) made only tells whole = absurd only
+view_read old new label (Err shares.NoMemory) made only tells whole = absurd only
 
 -- the roots of a lost tree
 pub loss_read : (old new : ShareSeen) (label : ℕ) (r : Result (Option LeafView) ShareFault)

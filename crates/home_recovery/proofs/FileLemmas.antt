@@ -28,17 +28,17 @@ digits_behind account file start e =
       omega (arith, size, long, lengths),
     )
 
-none_in : {X : Type 0} (q : X) → Contains [] q → ⊥
+pub none_in : {X : Type 0} (q : X) → Contains [] q → ⊥
 none_in q h = absurd (omega (arith, h.1))
 
 -- the elements so far, or one more
-in_or_last : {X : Type 0} (xs : List X) (item q : X) → Contains (xs ++ item ∷ []) q → Contains xs q ⊎ (item ≡ q)
+pub in_or_last : {X : Type 0} (xs : List X) (item q : X) → Contains (xs ++ item ∷ []) q → Contains xs q ⊎ (item ≡ q)
 in_or_last xs item q h = ⊎_elim inl (λ last. inr (one last.0 last.1 last.2)) (Contains-append_cases xs (item ∷ []) q h)
   where
     one : (k : ℕ) → k < 1 → get_or (item ∷ []) k q ≡ q → item ≡ q
     one k lt e = let z : k ≡ 0 = omega arith in subst (λ (n : ℕ). get_or (item ∷ []) n q ≡ q) z e
 
-last_in : {X : Type 0} (xs : List X) (item : X) → Contains (xs ++ item ∷ []) item
+pub last_in : {X : Type 0} (xs : List X) (item : X) → Contains (xs ++ item ∷ []) item
 last_in xs item = Contains-append_right xs (item ∷ []) item (0, omega arith, refl)
 
 -- the elements so far and the next

@@ -1,25 +1,27 @@
 -- What is read of a home, put together.
-use Rattle.std.proofs.Common.{◌≡◌, ℕ, ◌+◌, ◌≤◌, List, Option, None, Some, Result, Ok, Err, Bool, true, false, refl, sym, ap, ◌∙◌, subst, inl, inr, ⊎_elim, ◌⊎◌, IsOk, is_some, arith}
-use Rattle.std.specs.Prelude.{IsErrOf, IfOk, IfErr, IfSome, IsSome, Contains}
+use Rattle.std.proofs.Common.{◌≡◌, ℕ, List, Option, None, Some, Result, Ok, Err, Bool, true, false, refl, sym, ap, ◌∙◌, subst, inl, inr, ⊎_elim, IsOk, is_some, arith}
+use Rattle.std.specs.Prelude.{IsErrOf, IfOk, IfErr, IfSome}
 use Rattle.std.specs.Ordering.{nat_cmp}
 use Rattle.std.specs.Cmp.Lexicographic.{slice_cmp}
 use Rattle.std.specs.FinMap.{get, empty, get-empty}
-use Rattle.record_names.specs.Names.{AreParts, File, stash_name, file_name}
+use Rattle.record_names.specs.Names.{stash_name}
 use Rattle.share_api.specs.Conditions.{IsOf}
 use Rattle.share_api.specs.Contents.{Bytes, Contents}
 use Rattle.share_api.specs.Seen.{ShareSeen}
 use Rattle.stash_format.specs.declared.contents.Contents.{Contents as Stash}
-use Rattle.factor_files.specs.declared.factor.FactorRecord.{FactorRecord}
-use Rattle.stored_home.specs.Loaded.{Rows, Filed, IsRowOf, block_in, HasFactors, NamesTree}
+use Rattle.stored_home.specs.Loaded.{Rows, IsRowOf, block_in, HasFactors}
 use Rattle.stored_home.specs.Matching.{Matches}
 use Rattle.stored_home.specs.declared.fault.StoreFault.{StoreFault}
 use Rattle.stored_home.specs.declared.fault.StoreFault.TheVariants.{Failed, Damaged, NoMemory, TreeLost}
 use Rattle.stored_home.specs.declared.stored.Stored.{Stored}
 use Rattle.stored_home.specs.declared.stored.LostTree.{LostTree}
-use Rattle.home_recovery.specs.Bounds.{KeepsBounds, BreaksBounds}
-use Rattle.home_recovery.specs.Damage.{IsOwnStash, IsDamaged, IsSoundHome, IsWhole}
-use Rattle.home_recovery.specs.Home.{HasRowsIn, TellsFactors, TellsHome, TellsListed, ListsFiles}
-use Rattle.home_recovery.specs.Parts.{AreFiles, HasRowsOf, TellsRows, TellsStash, Serves}
+use Rattle.home_recovery.specs.Bounds.{BreaksBounds}
+use Rattle.stored_home.specs.Coherent.{KeepsBounds, IsCoherent, FitsBlock}
+use Rattle.stash_format.specs.Kept.{HasBoth}
+use Rattle.home_recovery.specs.Damage.{IsSoundHome, IsWhole}
+use Rattle.stored_home.specs.Coherent.{IsOwnStash}
+use Rattle.home_recovery.specs.Home.{TellsFactors, TellsHome, TellsListed, ListsFiles}
+use Rattle.home_recovery.specs.Parts.{AreFiles, AreFitting, TellsRows, TellsStash, Serves}
 use Rattle.home_recovery.specs.Reading.{Reads}
 use Rattle.home_recovery.specs.Told.{lost_tree, IsStepFault}
 use Rattle.home_recovery.proofs.ReadLemmas.{reads_as}
@@ -59,6 +61,12 @@ factors_none account lost stash rows c e none = record {
   where
     nothing : (label : Bytes) → get rows label ≡ None
     nothing label = ap (λ (m : Rows). get m label) none ∙ get-empty (slice_cmp nat_cmp) label
+
+-- no stash and no records fit
+pub none_fitting : (stash : Option Stash) (rows : Rows) → stash ≡ None → rows ≡ empty → AreFitting stash rows
+none_fitting stash rows e none label =
+    subst (λ o. Matches (FitsBlock label) (block_in o label) (get rows label)) (sym e)
+    (subst (λ y. Matches (FitsBlock label) None y) (sym (ap (λ (m : Rows). get m label) none ∙ get-empty (slice_cmp nat_cmp) label)) tt)
 
 -- faults of the parts as faults of the home
 pub stash_fault : (account : Bytes) (lost : Bool) (fault : StoreFault) (c : Contents)
@@ -149,3 +157,15 @@ module _ (old new : ShareSeen) (account : Bytes) (listed : List Bytes) (lost : B
   checked_reads (Err Failed) is broken = absurd (damaged_not_failed (stash_name account) (sym broken.0))
   checked_reads (Err NoMemory) is broken = let e : NoMemory ≡ Damaged (stash_name account) = broken.0 in absurd (cc e)
   checked_reads (Err (TreeLost host chip)) is broken = let e : TreeLost host chip ≡ Damaged (stash_name account) = broken.0 in absurd (cc e)
+
+-- What is loaded fits together, whatever the contents are.
+pub coherent_of : (account : Bytes) (listed : List Bytes) (stored kept : Stored) → AreFiles account listed stored.files
+    → IfSome stored.stash (IsOwnStash account) → IfSome stored.stash HasBoth → AreFitting stored.stash stored.factors
+    → (kept ≡ stored) × (HasFactors stored → KeepsBounds stored) → IsCoherent account kept
+coherent_of account listed stored kept files own both rows bounds = subst (IsCoherent account) (sym bounds.0) (record {
+  stash = own;
+  both = both;
+  rows = rows;
+  bounds = bounds.1;
+  files = files.named;
+})

@@ -1,8 +1,16 @@
 pub mod ReadLemmas
 pub mod CallLemmas
 pub mod RowLemmas
+pub mod StashLemmas
 pub mod BoundLemmas
 pub mod FileLemmas
 pub mod HomeLemmas
 pub mod LoadLemmas
 pub mod RemovalLemmas
+pub mod HeldLemmas
+pub mod KeptLemmas
+pub mod OwnNames
+pub mod SweepLemmas
+pub mod TidyLemmas
+pub mod RecoverLemmas
+pub mod FewerLemmas

@@ -1,14 +1,13 @@
 -- Loading, once names are listed.
-use Rattle.std.proofs.Common.{◌≡◌, ℕ, zero, suc, ◌+◌, ◌<◌, ◌≤◌, List, [], ◌∷◌, ◌++◌, map, length, get_or, Option, None, Some, Result, Ok, Err, Bool, true, false, refl, sym, ap, ◌∙◌, subst, inl, inr, ⊎_elim, ◌⊎◌, IsOk, is_some, true≢false, codes, arith}
-use Rattle.std.specs.Prelude.{IsErrOf, IfOk, IfErr, IsSome, IsTrue, Contains, slice_get}
+use Rattle.std.proofs.Common.{◌≡◌, ℕ, zero, suc, ◌<◌, ◌≤◌, List, [], ◌∷◌, ◌++◌, map, length, get_or, None, Some, Result, Ok, Err, refl, sym, ap, ◌∙◌, subst, inl, inr, ⊎_elim, IsOk, is_some, arith}
+use Rattle.std.specs.Prelude.{IsErrOf, IfOk, IsSome, IsTrue, Contains, slice_get}
 use Rattle.std.specs.List.{after_first}
 use Rattle.std.specs.Ordering.{nat_cmp}
 use Rattle.std.specs.Cmp.Lexicographic.{slice_cmp}
-use Rattle.std.specs.FinMap.{FinMap, get, keys, entries, len}
+use Rattle.std.specs.FinMap.{FinMap, get, keys, entries}
 use Rattle.std.proofs.lemmas.List.Elements.{Contains-append_left, Contains-append_cases}
 use Rattle.std.proofs.lemmas.List.Sorted.{IsPermutation-sym, Contains-permutation}
-use Rattle.pw_types.specs.declared.era.Era.{Era}
-use Rattle.record_names.specs.Names.{is_account_name, AreParts, Leaf, File, tail_of, leaf_name, file_name, is_full_stop}
+use Rattle.record_names.specs.Names.{is_account_name, Leaf, File, tail_of, leaf_name, file_name, is_full_stop}
 use Rattle.record_names.proofs.NameLemmas.{tail_is, after_full_stop, bytes-account}
 use Rattle.share_api.specs.Contents.{Bytes, Contents, settled}
 use Rattle.share_api.specs.Folds.{Fold}
@@ -27,10 +26,14 @@ use Rattle.home_recovery.specs.Damage.{IsDamaged, IsSoundHome}
 use Rattle.home_recovery.specs.Home.{TellsListed, ListsFiles}
 use Rattle.home_recovery.specs.Loads.{Loads}
 use Rattle.home_recovery.specs.Parts.{IsFaultReply}
-use Rattle.home_recovery.specs.Reading.{RunsOver, AreReads, Reads}
+use Rattle.home_recovery.specs.Reading.{RunsOver, Reads}
 use Rattle.home_recovery.specs.Told.{lost_tree}
 use Rattle.home_recovery.proofs.ReadLemmas.{over_one, over_then, over_stocked, reads_stay}
-use Rattle.home_recovery.proofs.CallLemmas.{not_ok, starved_no_failed, same_fault}
+use Rattle.share_api.proofs.FoldLaws.{throughout_end}
+use Rattle.stored_home.specs.Holds.{HoldsUnder}
+use Rattle.home_recovery.proofs.HeldLemmas.{held_undamaged}
+use Rattle.home_recovery.proofs.KeptLemmas.{reads_hold}
+use Rattle.home_recovery.proofs.CallLemmas.{not_ok}
 use Rattle.home_recovery.proofs.RowLemmas.{get_place, get_of_place}
 
 -- ---- names that are listed
@@ -110,6 +113,20 @@ names_in replies.Damaged = []
 names_in replies.Failed = []
 names_in replies.NoMemory = []
 
+-- and its labels
+abbrev labels_in : Reply → List ℕ
+labels_in replies.Done = []
+labels_in (replies.Found found) = []
+labels_in (replies.Listed listing) = listing.1
+labels_in (replies.Labelled label) = []
+labels_in (replies.Tried answer) = []
+labels_in (replies.Fits fits) = []
+labels_in (replies.Viewed view) = []
+labels_in replies.TreeLost = []
+labels_in replies.Damaged = []
+labels_in replies.Failed = []
+labels_in replies.NoMemory = []
+
 -- ---- how loading ends
 
 starved_no_damage : (name : Bytes) → ◌≡◌ {A = Result Stored StoreFault} (Err NoMemory) (Err (Damaged name)) → ⊥
@@ -122,18 +139,21 @@ starved_no_fail : ◌≡◌ {A = Result Stored StoreFault} (Err NoMemory) (Err F
 starved_no_fail e = cc
 
 -- no call could be stocked
-pub loads_starved : (old new : ShareSeen) (account : Bytes) → new ≡ record old { spare = new.spare } → Loads old new account (Err NoMemory)
-loads_starved old new account same = record {
+pub loads_starved : (old new : ShareSeen) (account : Bytes) → new ≡ record old { spare = new.spare } → old.spare ≤ new.spare
+    → Loads old new account (Err NoMemory)
+loads_starved old new account same more = record {
   steps = [];
   runs = over_stocked old new same;
   reads = tt;
   few = omega arith;
+  spare = omega (arith, more);
   well = λ o h. h;
   fails = λ e. absurd (starved_no_fail e);
   made = λ o e. not_ok o;
   lost = tt;
   loaded = tt;
   damaged = λ name e. absurd (starved_no_damage name e);
+  safe = λ name e. absurd (starved_no_damage name e);
 }
 
 module _ (old ready asked : ShareSeen) (account : Bytes) (reply : Reply) (same : ready ≡ record old { spare = ready.spare })
@@ -141,43 +161,47 @@ module _ (old ready asked : ShareSeen) (account : Bytes) (reply : Reply) (same :
   abbrev first : Step
   first = step_of ready 0 Names reply
 
-  begun : RunsOver old asked (first ∷ [])
+  pub begun : RunsOver old asked (first ∷ [])
   begun = over_then old ready asked [] (first ∷ []) (over_stocked old ready same) (over_one ready asked first made)
 
   -- the names couldn't be listed
-  pub loads_unlisted : (fault : StoreFault) → IsFaultReply fault reply → Loads old asked account (Err fault)
-  loads_unlisted Failed is = record {
+  pub loads_unlisted : (fault : StoreFault) → old.spare ≤ ready.spare → IsFaultReply fault reply → Loads old asked account (Err fault)
+  loads_unlisted Failed more is = record {
     steps = first ∷ [];
     runs = begun;
     reads = (tt, tt);
     few = omega arith;
+    spare = omega (arith, more, made.spare);
     well = λ o h. not_ok o;
     fails = λ e. inl is;
     made = λ o e. not_ok o;
     lost = tt;
     loaded = tt;
     damaged = λ name e. absurd (failed_no_damage name e);
+    safe = λ name e. absurd (failed_no_damage name e);
   }
-  loads_unlisted NoMemory is = record {
+  loads_unlisted NoMemory more is = record {
     steps = first ∷ [];
     runs = begun;
     reads = (tt, tt);
     few = omega arith;
+    spare = omega (arith, more, made.spare);
     well = λ o h. not_ok o;
     fails = λ e. absurd (starved_no_fail e);
     made = λ o e. not_ok o;
     lost = tt;
     loaded = tt;
     damaged = λ name e. absurd (starved_no_damage name e);
+    safe = λ name e. absurd (starved_no_damage name e);
   }
-  loads_unlisted (Damaged name) is = absurd is
-  loads_unlisted (TreeLost host chip) is = absurd is
+  loads_unlisted (Damaged name) more is = absurd is
+  loads_unlisted (TreeLost host chip) more is = absurd is
 
   module _ (new : ShareSeen) (names : List Bytes) (labels : List ℕ) (listed : List Bytes) (r : Result Stored StoreFault)
       (plain : IsTrue (is_account_name account)) (are : AreListed names labels listed) (is : reply ≡ replies.Listed (names, labels))
       (q : Reads asked new (IsOk r) (IsErrOf r Failed) 66 (TellsListed account listed (is_some asked.lost) r))
       (roots : IfOk r (λ stored. stored.lost ≡ lost_tree asked.lost)) where
-    lost_same : asked.lost ≡ old.lost
+    pub lost_same : asked.lost ≡ old.lost
     lost_same = made.lost ∙ ap (λ (s : ShareSeen). s.lost) same
 
     era_same : asked.era ≡ old.era
@@ -186,30 +210,48 @@ module _ (old ready asked : ShareSeen) (account : Bytes) (reply : Reply) (same :
     listing : (one two : List Bytes) (three four : List ℕ) → ◌≡◌ {A = Reply} (replies.Listed (one, three)) (replies.Listed (two, four)) → one ≡ two
     listing one two three four e = ap names_in e
 
-    -- the names are those of the contents, and none of these is in doubt
-    settled_after : (contents mid : Contents) → Does old.era contents first mid → (mid ≡ settled contents) × (names ≡ keys mid.records)
+    labelling : (one two : List Bytes) (three four : List ℕ) → ◌≡◌ {A = Reply} (replies.Listed (one, three)) (replies.Listed (two, four)) → three ≡ four
+    labelling one two three four e = ap labels_in e
+
+    -- the names and the labels are those of the contents, and no leaf of these is in doubt
+    settled_after : (contents mid : Contents) → Does old.era contents first mid
+        → (mid ≡ settled contents) × (names ≡ keys mid.records) × (labels ≡ keys mid.leaves)
     settled_after contents mid does =
         let l : Leads old.era 0 Names (replies.Listed (names, labels)) (settled contents) mid =
         subst (λ x. Leads old.era 0 Names x (settled contents) mid) is does in (
           l.1,
           listing names (keys (settled contents).records) labels (keys (settled contents).leaves) l.0
               ∙ ap (λ (c : Contents). keys c.records) (sym l.1),
+          labelling names (keys (settled contents).records) labels (keys (settled contents).leaves) l.0
+              ∙ ap (λ (c : Contents). keys c.leaves) (sym l.1),
         )
 
-    after : (contents new : Contents) → Fold (Does old.era) contents (first ∷ q.steps) new
-        → (new.doubt ≡ None) × TellsListed account listed (is_some old.lost) r new × ListsFiles account listed new
-    after contents new f =
+    -- what is known of the contents once all is read
+    pub record IsFound (c : Contents) : Type 0 where
+      pub clear : c.doubt ≡ None
+      pub names_are : names ≡ keys c.records
+      pub labels_are : labels ≡ keys c.leaves
+      pub told : TellsListed account listed (is_some old.lost) r c
+      pub lists : ListsFiles account listed c
+
+    pub found_after : (contents new : Contents) → Fold (Does old.era) contents (first ∷ q.steps) new → IsFound new
+    found_after contents new f =
         let mid = settled_after contents f.0 f.1 in
         let clear : f.0.doubt ≡ None = ap (λ (c : Contents). c.doubt) mid.0 in
         let stays = reads_stay old.era f.0 new q.steps clear q.reads f.2 in
         let here : Fold (Does old.era) f.0 q.steps f.0 = subst (λ x. Fold (Does old.era) f.0 q.steps x) stays f.2 in
         let tells = q.tells f.0 clear (subst (λ era. Fold (Does era) f.0 q.steps f.0) (sym era_same) here) in
-        let told = subst (λ x. TellsListed account listed (is_some x) r f.0) lost_same tells in
-        let lists = lists_files account names labels listed f.0 plain are mid.1 in (
-          ap (λ (c : Contents). c.doubt) stays ∙ clear,
-          subst (λ c. TellsListed account listed (is_some old.lost) r c) (sym stays) told,
-          subst (λ c. ListsFiles account listed c) (sym stays) lists,
-        )
+        subst IsFound (sym stays) (record {
+          clear = clear;
+          names_are = mid.1;
+          labels_are = mid.2;
+          told = subst (λ x. TellsListed account listed (is_some x) r f.0) lost_same tells;
+          lists = lists_files account names labels listed f.0 plain are mid.1;
+        })
+
+    after : (contents new : Contents) → Fold (Does old.era) contents (first ∷ q.steps) new
+        → (new.doubt ≡ None) × TellsListed account listed (is_some old.lost) r new × ListsFiles account listed new
+    after contents new f = let found = found_after contents new f in (found.clear, found.told, found.lists)
 
     sound_after : (x : Result Stored StoreFault) → ((contents new : Contents) → Fold (Does old.era) contents (first ∷ q.steps) new
         → (new.doubt ≡ None) × TellsListed account listed (is_some old.lost) x new × ListsFiles account listed new)
@@ -218,24 +260,35 @@ module _ (old ready asked : ShareSeen) (account : Bytes) (reply : Reply) (same :
     sound_after (Ok stored) h = λ contents new f. let a = h contents new f in (a.1 a.2, a.0)
     sound_after (Err fault) h = tt
 
-    went : IsOk r → HasFailed (first ∷ q.steps) → ⊥
+    pub went : IsOk r → HasFailed (first ∷ q.steps) → ⊥
     went o h = ⊎_elim (λ e. listed_went names labels (sym is ∙ e)) (q.well o) h
       where
         listed_went : (one : List Bytes) (three : List ℕ) → ◌≡◌ {A = Reply} (replies.Listed (one, three)) replies.Failed → ⊥
         listed_went one three e = cc
 
+    damaged_after : (name : Bytes) → IsErrOf r (Damaged name) → (contents new : Contents) → Fold (Does old.era) contents (first ∷ q.steps) new
+        → IsDamaged (is_some old.lost) new account name
+    damaged_after name e contents new f =
+        let a = after contents new f in
+        (subst (λ x. TellsListed account listed (is_some old.lost) x new) e a.1) a.2
+
     -- the home was loaded, or a fault was told
-    pub loads_listed : Loads old new account r
-    loads_listed = record {
+    pub loads_listed : old.spare ≤ ready.spare → Loads old new account r
+    loads_listed more = record {
       steps = first ∷ q.steps;
       runs = over_then old asked new (first ∷ []) q.steps begun q.runs;
       reads = (tt, q.reads);
       few = let few = q.few in omega (arith, few);
+      spare = let used = q.used in omega (arith, more, made.spare, used);
       well = went;
       fails = λ e. inr (q.fails e);
       made = λ o e. let n = ap length e in omega (arith, n);
       lost = subst (λ x. IfOk r (λ stored. stored.lost ≡ lost_tree x)) lost_same roots;
       loaded = sound_after r after;
-      damaged = λ name e contents new f. let a = after contents new f in
-          (subst (λ x. TellsListed account listed (is_some old.lost) x new) e a.1) a.2;
+      damaged = damaged_after;
+      safe = λ name e contents new durable keys f h.
+          held_undamaged (is_some old.lost) new account durable keys (after contents new f).0
+          (throughout_end (Does old.era) (λ c. HoldsUnder (is_some old.lost) c account durable keys) contents new (first ∷ q.steps)
+          (reads_hold old.era (is_some old.lost) account durable keys contents (first ∷ q.steps) (tt, q.reads) h) f)
+          name (damaged_after name e contents new f);
     }

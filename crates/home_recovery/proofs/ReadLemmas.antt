@@ -1,9 +1,9 @@
 -- Steps that only read, one after another.
-use Rattle.std.proofs.Common.{◌≡◌, ℕ, ◌+◌, ◌≤◌, List, [], ◌∷◌, ◌++◌, None, length, refl, sym, ap, ◌∙◌, subst, inl, inr, ⊎_elim, ◌⊎◌, append-nil, length-append, arith}
+use Rattle.std.proofs.Common.{◌≡◌, ℕ, ◌+◌, ◌≤◌, List, [], ◌∷◌, ◌++◌, None, length, refl, sym, ap, ◌∙◌, subst, inl, inr, ⊎_elim, append-nil, length-append, arith}
 use Rattle.pw_types.specs.declared.era.Era.{Era}
 use Rattle.share_api.specs.Contents.{Contents, settled}
 use Rattle.share_api.specs.Folds.{Fold, Throughout}
-use Rattle.share_api.specs.Seen.{ShareSeen, Makes, Runs, HasFailed, step_of}
+use Rattle.share_api.specs.Seen.{ShareSeen, Makes, Runs, HasFailed}
 use Rattle.share_api.specs.Steps.{Does, Leads}
 use Rattle.share_api.specs.declared.step.Op.{Op}
 use Rattle.share_api.specs.declared.step.Op.TheVariants.{Names, Get, Do, InsertLeaf, TryLeaf, ResetLeaf, LookLeaf}
@@ -11,7 +11,7 @@ use Rattle.share_api.specs.declared.step.Reply.{Reply}
 use Rattle.share_api.specs.declared.step.Reply.TheVariants.{Done, Found, Listed, Labelled, Tried, Fits, Viewed, TreeLost, Damaged, Failed, NoMemory}
 use Rattle.share_api.specs.declared.step.Step.{Step}
 use Rattle.share_api.proofs.FoldLaws.{fold_split}
-use Rattle.share_api.proofs.RunLaws.{runs_none, runs_one, runs_then, failed_append}
+use Rattle.share_api.proofs.RunLaws.{runs_one, runs_then, failed_append}
 use Rattle.share_api.proofs.StepLaws.{settled_same}
 use Rattle.home_recovery.specs.Reading.{RunsOver, IsReadOp, AreReads, Reads}
 
@@ -89,7 +89,7 @@ none_failed steps more p q h = ⊎_elim p q (failed_append steps more h)
 -- ---- runs with stocked calls
 
 -- with as many calls at the end
-respare : (old new : ShareSeen) (steps : List Step) (k l : ℕ) → Runs old new steps → k + length steps ≡ l
+pub respare : (old new : ShareSeen) (steps : List Step) (k l : ℕ) → Runs old new steps → k + length steps ≡ l
     → Runs (record old { spare = l }) (record new { spare = k }) steps
 respare old new steps k l h e = record {
   own = h.own;
@@ -141,6 +141,7 @@ reads_none old ok failed most P none all = record {
   reads = tt;
   few = omega arith;
   spare = omega arith;
+  used = omega arith;
   well = λ _ h. h;
   fails = λ f. absurd (none f);
   tells = λ c clear f. all c;
@@ -157,6 +158,7 @@ reads_one old new step ok failed P made is well fails tells = record {
   reads = (is, tt);
   few = omega arith;
   spare = omega (arith, made.spare);
+  used = omega (arith, made.spare);
   well = λ o h. ⊎_elim (well o) absurd h;
   fails = λ f. inl (fails f);
   tells = λ c clear f.
@@ -176,6 +178,7 @@ reads_then old mid new ok1 failed1 ok2 failed2 ok failed n m most P Q R p q with
   reads = reads_append p.steps q.steps p.reads q.reads;
   few = omega (arith, within, p.few, q.few, length-append p.steps q.steps);
   spare = omega (arith, within, p.spare, q.spare);
+  used = omega (arith, p.used, q.used, length-append p.steps q.steps);
   well = λ o. none_failed p.steps q.steps (p.well went) (q.well (well o));
   fails = λ f. failed_later p.steps q.steps (q.fails (fails f));
   tells = λ c clear f.
@@ -190,6 +193,21 @@ reads_then old mid new ok1 failed1 ok2 failed2 ok failed n m most P Q R p q with
     failed_later [] more h = h
     failed_later (step ∷ steps) more h = inr (failed_later steps more h)
 
+-- calls were stocked before the reads
+pub reads_stocked : (old ready new : ShareSeen) (ok failed : Type 0) (most : ℕ) (P : Contents → Type 0)
+    → ready ≡ record old { spare = ready.spare } → old.spare ≤ ready.spare → Reads ready new ok failed most P → Reads old new ok failed most P
+reads_stocked old ready new ok failed most P same more q = record {
+  steps = q.steps;
+  runs = over_then old ready new [] q.steps (over_stocked old ready same) q.runs;
+  reads = q.reads;
+  few = q.few;
+  spare = omega (arith, more, q.spare);
+  used = omega (arith, more, q.used);
+  well = q.well;
+  fails = q.fails;
+  tells = λ c clear f. q.tells c clear (subst (λ era. Fold (Does era) c q.steps c) (sym (ap (λ (s : ShareSeen). s.era) same)) f);
+}
+
 -- the same reads, told otherwise
 pub reads_as : (old new : ShareSeen) (ok1 failed1 ok failed : Type 0) (n most : ℕ) (P R : Contents → Type 0)
     → Reads old new ok1 failed1 n P → n ≤ most → (ok → ok1) → (failed → failed1) → ((c : Contents) → P c → R c)
@@ -200,6 +218,7 @@ reads_as old new ok1 failed1 ok failed n most P R p within well fails tells = re
   reads = p.reads;
   few = omega (arith, within, p.few);
   spare = omega (arith, within, p.spare);
+  used = p.used;
   well = λ o. p.well (well o);
   fails = λ f. p.fails (fails f);
   tells = λ c clear f. tells c (p.tells c clear f);

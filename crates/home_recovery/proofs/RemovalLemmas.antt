@@ -1,13 +1,13 @@
 -- Removals of what a loaded state doesn't name change nothing that is held.
-use Rattle.std.proofs.Common.{◌≡◌, ◌≢◌, ℕ, ◌<◌, List, [], ◌∷◌, Option, None, Some, Bool, false, refl, sym, ap, ◌∙◌, subst, inl, inr, ⊎_elim, ◌⊎◌, is_some, arith}
-use Rattle.std.specs.Prelude.{IsSome, IfSome, IsTrue, IsSomeAnd, option_and_then}
+use Rattle.std.proofs.Common.{◌≡◌, ℕ, List, [], ◌∷◌, Option, None, Some, Bool, refl, sym, ap, ◌∙◌, subst, inl, inr, ⊎_elim, ◌⊎◌}
+use Rattle.std.specs.Prelude.{IsSome, IsTrue, IsSomeAnd, option_and_then}
 use Rattle.std.specs.Ordering.{nat_cmp}
 use Rattle.std.specs.Cmp.Lexicographic.{slice_cmp}
-use Rattle.std.specs.FinMap.{get, empty, get-empty}
+use Rattle.std.specs.FinMap.{get, get-empty}
 use Rattle.account_machine.specs.declared.factor.Factor.{Factor}
 use Rattle.account_machine.specs.declared.user.Durable.{Durable}
 use Rattle.pw_types.specs.declared.era.Era.{Era}
-use Rattle.record_names.specs.Names.{is_account_name, AreParts, File, stash_name, factor_name, file_name}
+use Rattle.record_names.specs.Names.{is_account_name, stash_name, factor_name}
 use Rattle.share_api.specs.Contents.{Bytes, Contents, settled}
 use Rattle.share_api.specs.Folds.{Throughout}
 use Rattle.share_api.specs.Steps.{Does, Follows, Along, done}
@@ -20,10 +20,10 @@ use Rattle.stash_format.specs.declared.contents.Contents.{Contents as Stash}
 use Rattle.stash_format.specs.Record.{stash_at}
 use Rattle.factor_files.specs.declared.factor.FactorRecord.{FactorRecord}
 use Rattle.factor_files.specs.Record.{factor_at}
-use Rattle.stored_home.specs.Holds.{Keys, HasStash, HoldsStash, HoldsBy, HoldsUnder, IsBlockOf, NamesLeaf, record_at}
-use Rattle.stored_home.specs.Loaded.{Rows, IsRowOf, block_in, HasFactors, NamesTree}
+use Rattle.stored_home.specs.Holds.{Keys, HasStash, HoldsStash, HoldsBy, HoldsUnder, IsBlockOf, record_at}
+use Rattle.stored_home.specs.Loaded.{IsRowOf, block_in, HasFactors, NamesTree}
 use Rattle.stored_home.specs.Matching.{Matches}
-use Rattle.stored_home.specs.Unnamed.{IsUnnamed, NamesNot}
+use Rattle.stored_home.specs.Unnamed.{NamesNot}
 use Rattle.stored_home.specs.declared.stored.Stored.{Stored}
 use Rattle.stored_home.proofs.MapLemmas.{matches_weaker, matched_right, taken_other, from_some, not_None, some_not_None}
 use Rattle.stored_home.proofs.FrameLemmas.{same_stash, other_removed}
@@ -31,7 +31,7 @@ use Rattle.stored_home.proofs.ChangeLemmas.{unnamed_leaf_taken}
 use Rattle.home_recovery.specs.Loose.{IsReadOf, IsLoose, RemovesLoose}
 
 -- where the other is there the one is
-matched_left : {A B : Type 0} (R : A → B → Type 0) (x : Option A) (y : Option B) (a : A)
+pub matched_left : {A B : Type 0} (R : A → B → Type 0) (x : Option A) (y : Option B) (a : A)
     → x ≡ Some a → Matches R x y → (b : B) × (y ≡ Some b) × R a b
 matched_left R x None a p h = absurd (subst (λ u. Matches R u None) p h)
 matched_left R x (Some b) a p h = (b, refl, subst (λ u. Matches R u (Some b)) p h)
@@ -122,7 +122,7 @@ module _ (lost : Bool) (account : Bytes) (keys : Keys) (plain : IsTrue (is_accou
     blocks = λ label. matches_weaker (IsBlockOf lost old.records old.leaves account keys.main h.resets label)
         (IsBlockOf lost new.records new.leaves account keys.main h.resets label) (get stash.blocks label) (get durable.factors label)
         (λ block factor x y b. absurd (no_block label block x)) (h.blocks label);
-    apart = λ whole one two tree p q.
+    apart = λ one two tree p q.
         let block = matched_right (IsBlockOf lost old.records old.leaves account keys.main h.resets one)
         (get stash.blocks one) (get durable.factors one) p.factor p.there (h.blocks one) in
         absurd (no_block one block.0 block.1);

@@ -1,14 +1,14 @@
 -- Factor records that are read one after another.
-use Rattle.std.proofs.Common.{◌≡◌, ◌≢◌, ℕ, zero, suc, ◌+◌, ◌<◌, ◌≤◌, List, [], ◌∷◌, Option, None, Some, Result, Ok, Err, Bool, true, false, cond, length, refl, sym, ap, ◌∙◌, subst, inl, inr, ⊎_elim, ◌⊎◌, true≢false, arith}
-use Rattle.std.specs.Prelude.{IsSome, IfSome, IsTrue, slice_get, option_and_then, ◌&&◌}
+use Rattle.std.proofs.Common.{◌≡◌, ◌≢◌, ℕ, zero, suc, ◌+◌, ◌<◌, ◌≤◌, List, [], ◌∷◌, Option, None, Some, Ok, Err, Bool, true, false, cond, length, refl, sym, ap, ◌∙◌, subst, inl, inr, ⊎_elim, ◌⊎◌, arith}
+use Rattle.std.specs.Prelude.{IsSome, IfSome, IsTrue, slice_get}
 use Rattle.std.specs.Ordering.{nat_cmp, eq_by_cmp}
 use Rattle.std.specs.declared.cmp.Ordering.{Ordering}
 use Rattle.std.specs.List.{AllByRecursion}
 use Rattle.std.proofs.lemmas.List.Elements.{recursion_from_All}
 use Rattle.std.proofs.lemmas.Bool.{cases_lt}
 use Rattle.stash_format.proofs.Rows.{Everywhere-entries}
-use Rattle.std.specs.Cmp.Lexicographic.{slice_cmp, nat_list_cmp_total}
-use Rattle.std.specs.FinMap.{FinMap, get, insert, empty, entries, len, find, is_sorted, entries_sorted, get-entries, get-empty, len-entries}
+use Rattle.std.specs.Cmp.Lexicographic.{slice_cmp}
+use Rattle.std.specs.FinMap.{FinMap, get, insert, empty, entries, len, find, get-entries, get-empty, len-entries}
 use Rattle.home_names.specs.Names.{is_factor_label}
 use Rattle.record_names.specs.Names.{factor_name}
 use Rattle.share_api.specs.Contents.{Bytes, Contents}
@@ -22,9 +22,9 @@ use Rattle.stored_home.specs.Matching.{Matches}
 use Rattle.stored_home.specs.declared.fault.StoreFault.{StoreFault}
 use Rattle.stored_home.specs.declared.fault.StoreFault.TheVariants.{Failed, Damaged, NoMemory, TreeLost}
 use Rattle.stored_home.proofs.MapLemmas.{same_or_apart, put_at, put_other, from_some, not_None, some_is, at_same, either}
-use Rattle.home_recovery.specs.Bounds.{RowNames}
-use Rattle.home_recovery.specs.Damage.{LacksRow, LacksLeaf, LacksRecord}
-use Rattle.home_recovery.specs.Parts.{FitsRow, TellsRow, TellsItsLeaf, TellsFactor, TellsRows, HasItsLeaf, HasRowsOf}
+use Rattle.stored_home.specs.Coherent.{RowNames, FitsBlock}
+use Rattle.factor_files.specs.Record.{IsFactor}
+use Rattle.home_recovery.specs.Parts.{AreFitting, FitsRow, TellsRow, TellsItsLeaf, TellsFactor, TellsRows, HasItsLeaf, HasRowsOf}
 
 -- ---- one factor
 
@@ -200,6 +200,44 @@ module _ (account : Bytes) (lost : Bool) (stash : Stash) (c : Contents) where
 
       leaves : lost ≡ false → (label : Bytes) (tree : ℕ) → RowNames rows label tree → IsSome (get c.leaves tree)
       leaves whole label tree names = (sound label names.row names.there).3 whole tree names.names
+
+-- each record so far is one of its block, whatever the contents are
+abbrev pub AreFittingRows : Stash → Rows → Type 0
+AreFittingRows stash rows = (label : Bytes) (row : FactorRecord) → get rows label ≡ Some row
+    → (block : Block) × (get stash.blocks label ≡ Some block) × FitsBlock label block row
+
+pub no_fitting : (stash : Stash) → AreFittingRows stash empty
+no_fitting stash label row there = absurd (not_None row (sym there ∙ get-empty order label))
+
+module _ (stash : Stash) (rows : Rows) (fitting : AreFittingRows stash rows) where
+  pub fitting_added : (label : Bytes) (i : ℕ) (block : Block) (edition : ℕ) (row : FactorRecord)
+      → slice_get (entries stash.blocks) i ≡ Some (label, block) → edition ≡ block.edition
+      → IsFactor row → FitsRow label edition row → AreFittingRows stash (insert rows label row)
+  fitting_added label i block edition row at same plain fits q other there = ⊎_elim
+      (λ e. subst (λ (l : Bytes). (b : Block) × (get stash.blocks l ≡ Some b) × FitsBlock l b other) (sym e)
+      (subst (λ (r : FactorRecord). (b : Block) × (get stash.blocks label ≡ Some b) × FitsBlock label b r)
+      (from_some row other (sym (put_at rows label row) ∙ ap (get (insert rows label row)) (sym e) ∙ there)) (
+        block,
+        get_of_place stash.blocks i label block at,
+        record { plain = plain; label_is = fits.0; edition_is = fits.1 ∙ same },
+      )))
+      (λ away. fitting q other (sym (put_other rows label row q away) ∙ there))
+      (same_or_apart q label)
+
+  -- each block has its record
+  pub rows_fitting : ((label : Bytes) → IsBefore stash (len stash.blocks) label → IsSome (get rows label)) → AreFitting (Some stash) rows
+  rows_fitting all label = at (get stash.blocks label) (get rows label) refl refl
+    where
+      at : (x : Option Block) (y : Option FactorRecord) → get stash.blocks label ≡ x → get rows label ≡ y → Matches (FitsBlock label) x y
+      at None None p q = tt
+      at None (Some row) p q = let h = fitting label row q in absurd (not_None h.0 (sym h.1 ∙ p))
+      at (Some block) None p q =
+          let place = get_place stash.blocks label block p in
+          let there = some_is (get rows label) (all label (record { place = place.0; before = place.1; block = block; stands = place.2 })) in
+          absurd (not_None there.0 (sym there.1 ∙ q))
+      at (Some block) (Some row) p q =
+          let h = fitting label row q in
+          subst (λ (b : Block). FitsBlock label b row) (from_some h.0 block (sym h.1 ∙ p)) h.2
 
 -- the labels before the next place
 pub one_more : (stash : Stash) (rows : Rows) (at : ℕ) (label : Bytes) (block : Block) (row : FactorRecord)

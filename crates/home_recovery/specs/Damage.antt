@@ -1,5 +1,5 @@
 -- What makes a record of an account damaged.
-use Rattle.std.specs.Prelude.{◌≡◌, ◌≢◌, ◌⊎◌, ℕ, ◌<◌, ◌≤◌, Bool, false, Option, None, Some, IsSome, IfSome}
+use Rattle.std.specs.Prelude.{◌≡◌, ◌≢◌, ◌⊎◌, ℕ, ◌<◌, Bool, false, Option, None, Some, IsSome, IfSome}
 use Rattle.std.specs.FinMap.{get}
 use Rattle.record_names.specs.Names.{AreParts, File, stash_name, factor_name, leaf_name}
 use Rattle.stash_format.specs.Sizes.{text_size}
@@ -9,14 +9,11 @@ use Rattle.stash_format.specs.declared.contents.Contents.{Contents as Stash}
 use Rattle.stash_format.specs.Record.{stash_at}
 use Rattle.factor_files.specs.declared.factor.FactorRecord.{FactorRecord}
 use Rattle.stored_home.specs.Holds.{HasStash}
+use Rattle.stored_home.specs.Coherent.{IsOwnStash}
 use Rattle.stored_home.specs.Loaded.{IsLoaded, IsRowOf, HasFactors, NamesTree}
 use Rattle.stored_home.specs.declared.stored.Stored.{Stored}
-use Rattle.home_recovery.specs.Bounds.{RowNames, KeepsBounds, BreaksBounds}
-
--- The stash is the account's, and its payload is no longer than one of the grammar.
-pub record IsOwnStash (account : Bytes) (stash : Stash) : Type 0 where
-  pub account_is : stash.account ≡ account
-  pub short : text_size stash.payload ≤ 945
+use Rattle.home_recovery.specs.Bounds.{BreaksBounds}
+use Rattle.stored_home.specs.Coherent.{KeepsBounds}
 
 -- the bytes are no stash, or one of another account, or one with too long a payload
 abbrev pub IsBadStash : Bytes → Option Stash → Type 0

@@ -1,17 +1,17 @@
 -- What loading tells of a home, once names are listed.
-use Rattle.std.specs.Prelude.{◌≡◌, ◌⊎◌, ◌↔◌, ℕ, List, Bool, true, false, ◌==◌, ◌&&◌, not, Option, None, Some, Result, Ok, Err, IsSome, Contains, bytes_eq}
+use Rattle.std.specs.Prelude.{◌≡◌, ◌⊎◌, ◌↔◌, ℕ, List, Bool, false, ◌==◌, ◌&&◌, not, Option, None, Some, Result, Ok, Err, IsSome, Contains, bytes_eq}
 use Rattle.std.specs.FinMap.{get}
 use Rattle.record_names.specs.Names.{AreParts, File, stash_name, file_name}
-use Rattle.share_api.specs.Contents.{Bytes, Contents, Records}
+use Rattle.share_api.specs.Contents.{Bytes, Contents}
 use Rattle.stash_format.specs.declared.contents.Contents.{Contents as Stash}
 use Rattle.factor_files.specs.declared.factor.FactorRecord.{FactorRecord}
 use Rattle.stored_home.specs.Holds.{HasStash}
-use Rattle.stored_home.specs.Loaded.{Rows, IsRowOf, block_in, NamesTree}
+use Rattle.stored_home.specs.Loaded.{Rows, IsRowOf, block_in}
 use Rattle.stored_home.specs.Matching.{Matches}
 use Rattle.stored_home.specs.declared.fault.StoreFault.{StoreFault}
 use Rattle.stored_home.specs.declared.fault.StoreFault.TheVariants.{Failed, Damaged, NoMemory, TreeLost}
 use Rattle.stored_home.specs.declared.stored.Stored.{Stored}
-use Rattle.home_recovery.specs.Bounds.{RowNames}
+use Rattle.stored_home.specs.Coherent.{RowNames}
 use Rattle.home_recovery.specs.Damage.{HasBadStash, LacksRecord, IsDamaged, IsSoundHome}
 
 -- a factor's label with its record

@@ -6,3 +6,5 @@ pub mod Parts
 pub mod Home
 pub mod Loose
 pub mod Loads
+pub mod Sweeps
+pub mod Recovers

@@ -1,5 +1,5 @@
 -- Records and leaves that a loaded state doesn't name.
-use Rattle.std.specs.Prelude.{◌≢◌, ◌≡◌, ℕ, List, [], ◌∷◌, Some}
+use Rattle.std.specs.Prelude.{◌≢◌, ◌≡◌, List, [], ◌∷◌, Some}
 use Rattle.std.specs.FinMap.{get}
 use Rattle.record_names.specs.Names.{AreParts, File, stash_name, factor_name, file_name}
 use Rattle.share_api.specs.Contents.{Bytes, Contents}

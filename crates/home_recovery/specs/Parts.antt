@@ -1,11 +1,12 @@
 -- What the parts of loading tell of contents, by what they answer.
-use Rattle.std.specs.Prelude.{◌≡◌, ◌⊎◌, ◌↔◌, ℕ, List, Bool, true, false, Option, None, Some, Result, Ok, Err, IsSome, IfSome, Contains, Vec, is_some, option_and_then}
+use Rattle.std.specs.Prelude.{◌≡◌, ◌⊎◌, ◌↔◌, ℕ, List, Bool, true, false, Option, None, Some, Result, Ok, Err, IsSome, Contains, Vec, is_some, option_map, option_and_then}
 use Rattle.std.specs.FinMap.{get}
 use Rattle.record_names.specs.Names.{AreParts, File, stash_name, factor_name, leaf_name, file_name, is_account_name}
 use Rattle.share_api.specs.Conditions.{IsOf}
-use Rattle.share_api.specs.Contents.{Bytes, Contents, Records}
+use Rattle.share_api.specs.Contents.{Bytes, Contents}
 use Rattle.share_api.specs.Replies.{AreListed}
 use Rattle.share_api.specs.Seen.{ShareSeen}
+use Rattle.share_api.specs.Steps.{view_of}
 use Rattle.share_api.specs.declared.leaf.LeafView.{LeafView}
 use Rattle.share_api.specs.declared.fault.ShareFault.{ShareFault}
 use Rattle.share_api.specs.declared.fault.ShareFault.TheVariants as shares
@@ -16,13 +17,14 @@ use Rattle.stash_format.specs.Record.{stash_at}
 use Rattle.factor_files.specs.declared.factor.FactorRecord.{FactorRecord}
 use Rattle.factor_files.specs.Record.{factor_at}
 use Rattle.stored_home.specs.Holds.{HasStash, record_at}
-use Rattle.stored_home.specs.Loaded.{Rows, Filed, IsRowOf}
+use Rattle.stored_home.specs.Loaded.{Rows, Filed, IsRowOf, block_in}
 use Rattle.stored_home.specs.Matching.{Matches}
 use Rattle.stored_home.specs.declared.fault.StoreFault.{StoreFault}
 use Rattle.stored_home.specs.declared.fault.StoreFault.TheVariants.{Failed, Damaged, NoMemory, TreeLost}
 use Rattle.stored_home.specs.declared.stored.LostTree.{LostTree}
-use Rattle.home_recovery.specs.Bounds.{RowNames}
-use Rattle.home_recovery.specs.Damage.{IsOwnStash, IsBadStash, HasBadStash, LacksRecord}
+use Rattle.stored_home.specs.Coherent.{RowNames, FitsBlock}
+use Rattle.home_recovery.specs.Damage.{IsBadStash, HasBadStash, LacksRecord}
+use Rattle.stored_home.specs.Coherent.{IsOwnStash}
 use Rattle.home_recovery.specs.Told.{told_fault}
 
 -- ---- single reads
@@ -49,6 +51,11 @@ TellsBytes name (Err fault) contents = Unit {0}
 abbrev pub TellsLeaf : ℕ → Result Bool StoreFault → Contents → Type 0
 TellsLeaf label (Ok there) contents = is_some (get contents.leaves label) ≡ there
 TellsLeaf label (Err fault) contents = Unit {0}
+
+-- what anybody may know of the leaf
+abbrev pub TellsView : ℕ → Result (Option LeafView) StoreFault → Contents → Type 0
+TellsView label (Ok view) contents = option_map view_of (get contents.leaves label) ≡ view
+TellsView label (Err fault) contents = Unit {0}
 
 -- whether a leaf is there, by a look at it
 abbrev pub there_of : Result (Option LeafView) ShareFault → Result Bool StoreFault
@@ -158,6 +165,10 @@ TellsRows account lost stash (Err (Damaged name)) contents = LacksRecord lost co
 TellsRows account lost stash (Err Failed) contents = Unit {0}
 TellsRows account lost stash (Err NoMemory) contents = Unit {0}
 TellsRows account lost stash (Err (TreeLost host chip)) contents = Unit {0}
+
+-- the stash's blocks have their records and there are no others, whatever the contents are
+abbrev pub AreFitting : Option Stash → Rows → Type 0
+AreFitting stash rows = (label : Bytes) → Matches (FitsBlock label) (block_in stash label) (get rows label)
 
 -- ---- vault files
 

@@ -34,6 +34,7 @@ pub record Reads (old new : ShareSeen) (ok failed : Type 0) (most : ℕ) (P : Co
   pub reads : AreReads steps
   pub few : length steps ≤ most
   pub spare : old.spare ≤ new.spare + most
+  pub used : old.spare ≤ new.spare + length steps
   pub well : ok → HasFailed steps → ⊥
   pub fails : failed → HasFailed steps
   pub tells : (contents : Contents) → contents.doubt ≡ None → Fold (Does old.era) contents steps contents → P contents

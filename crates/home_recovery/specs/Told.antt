@@ -1,5 +1,5 @@
 -- Which faults loading may answer, and how a share's answers are told.
-use Rattle.std.specs.Prelude.{ℕ, Option, None, Some, Result, Ok, Err}
+use Rattle.std.specs.Prelude.{Option, None, Some, Result, Ok, Err}
 use Rattle.share_api.specs.Contents.{Bytes}
 use Rattle.share_api.specs.declared.fault.ShareFault.{ShareFault}
 use Rattle.share_api.specs.declared.fault.ShareFault.TheVariants as shares

@@ -7,7 +7,8 @@ ghost use Rattle.account_machine.specs.Outline.{is_pin_kind, is_password_kind};
 ghost use Rattle.record_names.specs.Names.{is_account_name, stash_name};
 ghost use Rattle.stored_home.specs.Loaded.{HasFactors};
 ghost use Rattle.stored_home.specs.declared.fault.StoreFault.{StoreFault};
-ghost use Rattle.home_recovery.specs.Bounds.{KeepsBounds, BreaksBounds};
+ghost use Rattle.home_recovery.specs.Bounds.{BreaksBounds};
+ghost use Rattle.stored_home.specs.Coherent.{KeepsBounds};
 ghost use Rattle.home_recovery.specs.Home.{Row, is_rival};
 
 use account_machine::Kind;

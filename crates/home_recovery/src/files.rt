@@ -1,10 +1,11 @@
 //! The vault files that are listed.
 
-ghost use Rattle.std.specs.Prelude.{◌≡◌, ◌/◌, ◌≤◌, ◌++◌, ℕ, List, length, codes, Some, IsTrue, IfOk, IfSome};
+ghost use Rattle.std.specs.Prelude.{◌≡◌, ◌↔◌, ◌/◌, ◌≤◌, ◌++◌, ℕ, List, length, codes, Some, IsTrue, IfOk, IfSome};
 ghost use Rattle.std.specs.Str.{IsUtf8};
 ghost use Rattle.hex.specs.Hex.{encode_lower, IsBytes};
-ghost use Rattle.record_names.specs.Names.{is_account_name, AreParts, File, file_name};
+ghost use Rattle.record_names.specs.Names.{is_account_name, account_of, AreParts, File, file_name};
 ghost use Rattle.home_recovery.specs.Parts.{AreFiles};
+ghost use Rattle.home_recovery.specs.Sweeps.{IsFileRecord};
 
 use ct_bytes::{NoMemory, Text};
 use name_map::NameMap;
@@ -89,6 +90,18 @@ fn file_of(alloc: Global, account: &str, name: &RecordName) -> Result<Option<Tex
     } else {
         Ok(None)
     }
+}
+
+/// Whether a record of the account is a vault file's, by its name.
+pub(crate) fn is_file_record(account: &str, name: &RecordName) -> bool
+    requires plain { IsTrue (is_account_name account.now) }
+    requires own { account_of name.now ≡ account.now }
+    ensures { IsTrue result ↔ IsFileRecord account.now name.now }
+{
+    let bytes = name.as_str().as_bytes();
+    let start = account.len();
+    let end = start + FILE_END;
+    end <= bytes.len() && &bytes[start..end] == b".file.".as_slice()
 }
 
 /// The vault files whose records are listed, by name.

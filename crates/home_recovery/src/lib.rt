@@ -5,7 +5,11 @@ mod bounds;
 mod files;
 mod loading;
 mod read;
+mod recovering;
+mod removing;
 mod rows;
 mod stash;
 
 pub use loading::load;
+pub use read::{find_bytes, find_view};
+pub use recovering::recover;

@@ -3,12 +3,12 @@
 ghost use Rattle.std.specs.Prelude.{◌≡◌, ◌≤◌, ◌+◌, None, Some, is_some, IsOk, IsErrOf, IfOk, IfErr, IfSome, IsTrue};
 ghost use Rattle.record_names.specs.Names.{is_account_name};
 ghost use Rattle.share_api.specs.Conditions.{IsOf};
-ghost use Rattle.stash_format.specs.Kept.{HasRows};
+ghost use Rattle.stash_format.specs.Kept.{HasRows, HasBoth};
 ghost use Rattle.stored_home.specs.declared.fault.StoreFault.{StoreFault};
-ghost use Rattle.home_recovery.specs.Damage.{IsOwnStash};
+ghost use Rattle.stored_home.specs.Coherent.{IsOwnStash, IsCoherent};
 ghost use Rattle.home_recovery.specs.Home.{TellsFactors, TellsHome, TellsListed};
 ghost use Rattle.home_recovery.specs.Loads.{Loads};
-ghost use Rattle.home_recovery.specs.Parts.{Serves};
+ghost use Rattle.home_recovery.specs.Parts.{Serves, AreFitting};
 ghost use Rattle.home_recovery.specs.Reading.{Reads};
 ghost use Rattle.home_recovery.specs.Told.{lost_tree, IsLoadFault};
 
@@ -26,7 +26,7 @@ use stored_home::{Kept, StoreFault, Stored};
 
 /// The most steps of loading: the names, the stash, a look for a lost tree, and for each of 32 blocks its
 /// record and its leaf.
-const MOST_READS: usize = 67;
+pub(crate) const MOST_READS: usize = 67;
 
 // The factor records that the stash names, where there is one.
 fn read_factors<S: Share>(
@@ -42,6 +42,7 @@ fn read_factors<S: Share>(
     requires rows { IfSome stash.now (λ s. HasRows s.next s.blocks) }
     ensures read { Reads (S.seen share.old) (S.seen share.new) (IsOk result) (IsErrOf result StoreFault.Failed) 64
         (TellsFactors account.now lost stash.now result) }
+    ensures fits { IfOk result (AreFitting stash.now) }
     ensures only { IfErr result IsLoadFault }
     ensures goes { S.goes share.old share.new }
 {
@@ -64,6 +65,8 @@ fn read_home<S: Share>(
         (TellsHome account.now (is_some (S.seen share.old).lost) result) }
     ensures files { IfOk result (λ stored. stored.files ≡ files) }
     ensures own { IfOk result (λ stored. IfSome stored.stash (IsOwnStash account.now)) }
+    ensures both { IfOk result (λ stored. IfSome stored.stash HasBoth) }
+    ensures fits { IfOk result (λ stored. AreFitting stored.stash stored.factors) }
     ensures lost { IfOk result (λ stored. stored.lost ≡ lost_tree (S.seen share.old).lost) }
     ensures only { IfErr result IsLoadFault }
     ensures goes { S.goes share.old share.new }
@@ -79,8 +82,8 @@ fn read_home<S: Share>(
     })
 }
 
-// The loaded state, once names are listed.
-fn load_listed<S: Share>(
+/// The loaded state, once names are listed.
+pub(crate) fn load_listed<S: Share>(
     alloc: Global,
     account: &str,
     share: &mut S,
@@ -90,6 +93,7 @@ fn load_listed<S: Share>(
     requires serves { Serves account.now (S.seen share.old) }
     ensures read { Reads (S.seen share.old) (S.seen share.new) (IsOk result) (IsErrOf result StoreFault.Failed) 66
         (TellsListed account.now listed.now (is_some (S.seen share.old).lost) result) }
+    ensures coherent { IfOk result (IsCoherent account.now) }
     ensures lost { IfOk result (λ stored. stored.lost ≡ lost_tree (S.seen share.old).lost) }
     ensures only { IfErr result IsLoadFault }
     ensures goes { S.goes share.old share.new }
@@ -115,6 +119,8 @@ pub fn load<S: Share>(alloc: Global, account: &str, share: &mut S) -> Result<Sto
     requires own { IsOf (S.seen share.old).owner account.now }
     // Of whatever contents the device steps fit.
     ensures loads { Loads (S.seen share.old) (S.seen share.new) account.now result }
+    // Whatever the contents are.
+    ensures coherent { IfOk result (IsCoherent account.now) }
     ensures only { IfErr result IsLoadFault }
     ensures goes { S.goes share.old share.new }
 {

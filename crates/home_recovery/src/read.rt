@@ -6,7 +6,7 @@ ghost use Rattle.share_api.specs.Seen.{Makes, step_of};
 ghost use Rattle.share_api.specs.declared.step.Op.{Op};
 ghost use Rattle.share_api.specs.declared.step.Reply.{Reply};
 ghost use Rattle.stored_home.specs.declared.fault.StoreFault.{StoreFault};
-ghost use Rattle.home_recovery.specs.Parts.{AreNames, TellsBytes, TellsLeaf, there_of, loss_of};
+ghost use Rattle.home_recovery.specs.Parts.{AreNames, TellsBytes, TellsLeaf, TellsView, there_of, loss_of};
 ghost use Rattle.home_recovery.specs.Reading.{Reads};
 ghost use Rattle.home_recovery.specs.Told.{told, lost_tree, IsPlainFault, IsStepFault};
 
@@ -16,8 +16,8 @@ use share_api::{LeafView, RecordName, Share, ShareFault};
 use std::alloc::Global;
 use stored_home::{LostTree, StoreFault};
 
-// An answer of a share, with its fault as a store's.
-fn told<T: Drop>(answer: Result<T, ShareFault>) -> Result<T, StoreFault>
+/// An answer of a share, with its fault as a store's.
+pub(crate) fn told<T: Drop>(answer: Result<T, ShareFault>) -> Result<T, StoreFault>
     requires { IfErr answer IsPlainFault }
     ensures { result ≡ told answer }
 {
@@ -69,8 +69,9 @@ pub(crate) fn list_names<S: Share>(
     told(share.names(alloc))
 }
 
-/// The bytes of a record.
-pub(crate) fn find_bytes<S: Share>(
+/// The bytes of a record, and `None` where there is no such record. The faults are `Failed` and
+/// `NoMemory`.
+pub fn find_bytes<S: Share>(
     alloc: Global,
     share: &mut S,
     name: &RecordName,
@@ -83,6 +84,19 @@ pub(crate) fn find_bytes<S: Share>(
     ensures goes { S.goes share.old share.new }
 {
     told(share.get(alloc, name))
+}
+
+/// What anybody may know of a leaf, and `None` where there is no such leaf. The tree isn't lost. The fault
+/// is `Failed`.
+pub fn find_view<S: Share>(share: &mut S, label: Label) -> Result<Option<LeafView>, StoreFault>
+    requires spare { 1 ≤ (S.seen share.old).spare }
+    requires whole { (S.seen share.old).lost ≡ None }
+    ensures read { Reads (S.seen share.old) (S.seen share.new) (IsOk result) (IsErrOf result StoreFault.Failed) 1
+        (TellsView label result) }
+    ensures only { IfErr result IsStepFault }
+    ensures goes { S.goes share.old share.new }
+{
+    told(share.leaf(label))
 }
 
 /// Whether a leaf is there. The tree isn't lost.

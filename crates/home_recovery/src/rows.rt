@@ -1,11 +1,11 @@
 //! The factor records that a stash names.
 
 ghost use Rattle.std.specs.Prelude.{◌≡◌, ◌≤◌, false, None, Some, is_some, IsOk, IsErrOf, IfOk, IfErr, IsTrue, option_and_then};
-ghost use Rattle.factor_files.specs.Record.{factor_at};
+ghost use Rattle.factor_files.specs.Record.{factor_at, IsFactor};
 ghost use Rattle.record_names.specs.Names.{is_account_name, is_factor_label};
 ghost use Rattle.stash_format.specs.Kept.{HasRows};
 ghost use Rattle.stored_home.specs.declared.fault.StoreFault.{StoreFault};
-ghost use Rattle.home_recovery.specs.Parts.{FitsRow, ReadsRow, TellsRow, TellsItsLeaf, TellsFactor, TellsRows, Serves};
+ghost use Rattle.home_recovery.specs.Parts.{AreFitting, FitsRow, ReadsRow, TellsRow, TellsItsLeaf, TellsFactor, TellsRows, Serves};
 ghost use Rattle.home_recovery.specs.Reading.{Reads};
 ghost use Rattle.home_recovery.specs.Told.{IsLoadFault};
 
@@ -43,7 +43,8 @@ fn parse_row(
     label: &str,
     edition: u64,
 ) -> Result<FactorRecord, StoreFault>
-    ensures { ReadsRow name.now found label.now edition result }
+    ensures reads { ReadsRow name.now found label.now edition result }
+    ensures plain { IfOk result IsFactor }
 {
     let Some(bytes) = found else {
         return Err(StoreFault::Damaged(*name));
@@ -68,6 +69,7 @@ fn read_row<S: Share>(
     requires label { IsTrue (is_factor_label label.now) }
     ensures read { Reads (S.seen share.old) (S.seen share.new) (IsOk result) (IsErrOf result StoreFault.Failed) 1
         (TellsRow account.now label.now edition result) }
+    ensures fits { IfOk result (λ row. IsFactor row × FitsRow label.now edition row) }
     ensures only { IfErr result IsLoadFault }
     ensures goes { S.goes share.old share.new }
 {
@@ -119,6 +121,7 @@ fn read_factor<S: Share>(
     requires label { IsTrue (is_factor_label label.now) }
     ensures read { Reads (S.seen share.old) (S.seen share.new) (IsOk result) (IsErrOf result StoreFault.Failed) 2
         (TellsFactor account.now lost label.now edition result) }
+    ensures fits { IfOk result (λ row. IsFactor row × FitsRow label.now edition row) }
     ensures only { IfErr result IsLoadFault }
     ensures goes { S.goes share.old share.new }
 {
@@ -141,6 +144,7 @@ pub(crate) fn read_rows<S: Share>(
     requires rows { HasRows stash.now.next stash.now.blocks }
     ensures read { Reads (S.seen share.old) (S.seen share.new) (IsOk result) (IsErrOf result StoreFault.Failed) 64
         (TellsRows account.now lost stash.now result) }
+    ensures fits { IfOk result (AreFitting (Some stash.now)) }
     ensures only { IfErr result IsLoadFault }
     ensures goes { S.goes share.old share.new }
 {

@@ -3,9 +3,10 @@
 ghost use Rattle.std.specs.Prelude.{◌≡◌, ◌≤◌, IsOk, IsErrOf, IfOk, IfErr, IfSome, IsTrue, Some, ◌&&◌, nat_le, bytes_eq};
 ghost use Rattle.record_names.specs.Names.{is_account_name, stash_name};
 ghost use Rattle.stash_format.specs.Sizes.{text_size};
-ghost use Rattle.stash_format.specs.Kept.{HasRows};
+ghost use Rattle.stash_format.specs.Kept.{HasRows, HasBoth};
 ghost use Rattle.stored_home.specs.declared.fault.StoreFault.{StoreFault};
-ghost use Rattle.home_recovery.specs.Damage.{IsOwnStash, IsBadStash};
+ghost use Rattle.home_recovery.specs.Damage.{IsBadStash};
+ghost use Rattle.stored_home.specs.Coherent.{IsOwnStash};
 ghost use Rattle.home_recovery.specs.Parts.{ReadsStash, ReadsFound, TellsStash, Serves};
 ghost use Rattle.home_recovery.specs.Reading.{Reads};
 ghost use Rattle.home_recovery.specs.Told.{IsLoadFault};
@@ -45,6 +46,7 @@ fn parse_stash(alloc: Global, account: &str, bytes: &[u8]) -> Result<Stash, Stor
     requires { IsTrue (is_account_name account.now) }
     ensures reads { ReadsStash account.now bytes.now result }
     ensures rows { IfOk result (λ stash. HasRows stash.next stash.blocks) }
+    ensures both { IfOk result HasBoth }
 {
     match Stash::read(alloc, bytes) {
         Ok(stash) => own_stash(account, stash),
@@ -62,6 +64,7 @@ fn parse_found(
     requires { IsTrue (is_account_name account.now) }
     ensures reads { ReadsFound account.now found result }
     ensures rows { IfOk result (λ stash. IfSome stash (λ s. HasRows s.next s.blocks)) }
+    ensures both { IfOk result (λ stash. IfSome stash HasBoth) }
 {
     match found {
         Some(bytes) => Ok(Some(parse_stash(alloc, account, bytes.as_slice())?)),
@@ -81,6 +84,7 @@ pub(crate) fn read_stash<S: Share>(
         (TellsStash account.now result) }
     ensures own { IfOk result (λ stash. IfSome stash (IsOwnStash account.now)) }
     ensures rows { IfOk result (λ stash. IfSome stash (λ s. HasRows s.next s.blocks)) }
+    ensures both { IfOk result (λ stash. IfSome stash HasBoth) }
     ensures only { IfErr result IsLoadFault }
     ensures goes { S.goes share.old share.new }
 {

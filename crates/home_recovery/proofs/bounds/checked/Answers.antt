@@ -1,4 +1,4 @@
-use Rattle.std.proofs.Common.{◌≡◌, refl, sym, ap, ◌∙◌}
+use Rattle.std.proofs.Common.{refl, sym, ap, ◌∙◌}
 use Rattle.stored_home.specs.declared.fault.StoreFault.TheVariants.{Damaged}
 use Rattle.home_recovery.proofs.BoundLemmas.{bounds_kept, bounds_broken}
 use Rattle.home_recovery.proofs.bounds.checked.Goals as goal

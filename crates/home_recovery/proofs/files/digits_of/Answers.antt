@@ -1,6 +1,5 @@
-use Rattle.std.proofs.Common.{◌≡◌, ◌+◌, length, drop, refl, ap, ◌∙◌, arith}
+use Rattle.std.proofs.Common.{◌+◌, length, drop, refl, ap, ◌∙◌, arith}
 use Rattle.std.proofs.lemmas.List.{take_rest}
-use Rattle.record_names.specs.Names.{file_name}
 use Rattle.home_recovery.proofs.FileLemmas.{digits_behind}
 use Rattle.home_recovery.proofs.files.digits_of.Goals as goal
 

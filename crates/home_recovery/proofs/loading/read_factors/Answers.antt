@@ -5,7 +5,7 @@ use Rattle.home_recovery.specs.Home.{TellsFactors}
 use Rattle.home_recovery.specs.Parts.{TellsRows}
 use Rattle.home_recovery.proofs.CallLemmas.{no_err}
 use Rattle.home_recovery.proofs.ReadLemmas.{reads_as, reads_none}
-use Rattle.home_recovery.proofs.HomeLemmas.{factors_some, factors_none}
+use Rattle.home_recovery.proofs.HomeLemmas.{factors_some, factors_none, none_fitting}
 use Rattle.home_recovery.proofs.loading.read_factors.Goals as goal
 
 pub returns-in-Some-clause-read : goal.returns-in-Some-clause-read
@@ -23,3 +23,7 @@ returns-in-None-clause-read g c =
     (TellsFactors c.args.account.now c.args.lost c.args.stash.now (Ok c.new.result))
     (λ f. no_err c.new.result Failed f)
     (λ contents. factors_none c.args.account.now c.args.lost c.args.stash.now c.new.result contents c.in-None.is c.new.ensures)
+
+-- without a stash there are no records
+pub returns-in-None-clause-fits : goal.returns-in-None-clause-fits
+returns-in-None-clause-fits g c = none_fitting c.args.stash.now c.new.result c.in-None.is c.new.ensures

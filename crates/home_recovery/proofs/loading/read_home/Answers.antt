@@ -1,11 +1,8 @@
-use Rattle.std.proofs.Common.{◌≡◌, ℕ, Ok, Err, true, refl, sym, ap, ◌∙◌, subst, is_some, arith}
+use Rattle.std.proofs.Common.{Ok, Err, refl, sym, ap, ◌∙◌, subst, is_some, arith}
 use Rattle.std.proofs.lemmas.Result.{err_from_is_err_and}
-use Rattle.share_api.specs.Contents.{Bytes, Contents}
-use Rattle.share_api.specs.Seen.{ShareSeen}
 use Rattle.stored_home.specs.declared.stored.Stored.{Stored}
 use Rattle.home_recovery.specs.Home.{TellsFactors, TellsHome}
 use Rattle.home_recovery.specs.Parts.{TellsStash}
-use Rattle.home_recovery.specs.Reading.{Reads}
 use Rattle.home_recovery.proofs.CallLemmas.{reads_err, reads_then_err, reads_then_ok}
 use Rattle.home_recovery.proofs.ReadLemmas.{reads_then}
 use Rattle.home_recovery.proofs.HomeLemmas.{serves_on, loss_is, stash_fault, step_fault, factors_fault}

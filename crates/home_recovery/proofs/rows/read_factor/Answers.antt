@@ -1,4 +1,4 @@
-use Rattle.std.proofs.Common.{◌≡◌, Ok, Err, IsOk, arith, refl}
+use Rattle.std.proofs.Common.{Ok, Err, arith, refl}
 use Rattle.std.proofs.lemmas.Result.{err_from_is_err_and}
 use Rattle.home_recovery.specs.Parts.{TellsRow, TellsItsLeaf, TellsFactor}
 use Rattle.home_recovery.proofs.CallLemmas.{reads_err, reads_then_err, reads_then_ok}

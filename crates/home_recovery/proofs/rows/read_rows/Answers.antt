@@ -6,7 +6,7 @@ use Rattle.stored_home.specs.declared.fault.StoreFault.TheVariants.{NoMemory}
 use Rattle.home_recovery.specs.Parts.{TellsFactor, TellsRows}
 use Rattle.home_recovery.proofs.ReadLemmas.{reads_none, reads_then}
 use Rattle.home_recovery.proofs.CallLemmas.{reads_then_err, reads_then_starved, reads_ok}
-use Rattle.home_recovery.proofs.RowLemmas.{IsBefore, AreSoundRows, no_rows, none_before, label_of_block, factor_fault, row_added, one_more, rows_whole}
+use Rattle.home_recovery.proofs.RowLemmas.{AreSoundRows, no_rows, none_before, label_of_block, factor_fault, row_added, one_more, rows_whole, AreFittingRows, no_fitting, fitting_added, rows_fitting}
 use Rattle.home_recovery.proofs.rows.read_rows.Goals as goal
 
 pub blocks-2-init : goal.blocks-2-init
@@ -20,6 +20,7 @@ blocks-2-init g c =
       read = reads_none (g.S.Share.seen c.args.share.now) (Unit {0}) ⊥ 0 (λ contents. AreSoundRows lost contents account stash c.new-rows.result)
           (λ f. f) (λ contents. subst (λ (m : Rows). AreSoundRows lost contents account stash m) (sym none) (no_rows lost contents account stash));
       all = λ q before. absurd (none_before stash q before);
+      fits = subst (λ (m : Rows). AreFittingRows stash m) (sym none) (no_fitting stash);
       goes = g.met.S.Share.goes_nowhere c.args.share.now;
     }
 
@@ -100,6 +101,9 @@ blocks-2-preserved g c =
           (row_added account lost stash contents rows label c.blocks-2.at b.0 edition row b.1 b.2 h l));
       all = λ q before. subst (λ (m : Rows). Rattle.std.specs.Prelude.IsSome (get m q)) (sym added)
           (one_more stash rows c.blocks-2.at label b.0 row b.1 c.blocks-2.invariant.all q before);
+      fits = subst (λ (m : Rows). AreFittingRows stash m) (sym added)
+          (fitting_added stash rows c.blocks-2.invariant.fits label c.blocks-2.at b.0 edition row b.1 b.2
+          c.in_ok-row.ensures.fits.0 c.in_ok-row.ensures.fits.1);
       goes = g.met.S.Share.goes_on c.args.share.now c.blocks-2.share c.read_factor.new.share c.blocks-2.invariant.goes c.read_factor.ensures.goes;
     }
 
@@ -123,3 +127,16 @@ returns-clause-read g c =
       block = before.block;
       stands = before.stands;
     })))
+
+-- and they are those of the blocks, whatever the contents are
+pub returns-clause-fits : goal.returns-clause-fits
+returns-clause-fits g c =
+    let past = c.blocks-2-test.false in
+    let size = c.count-at-end.ensures.value in
+    rows_fitting c.args.stash.now c.blocks-2.rows c.blocks-2.invariant.fits
+    (λ label before. c.blocks-2.invariant.all label (let bef = before.before in record {
+      place = before.place;
+      before = omega (arith, bef, past, size);
+      block = before.block;
+      stands = before.stands;
+    }))
