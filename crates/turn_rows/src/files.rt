@@ -6,6 +6,7 @@ ghost use Rattle.account_machine.specs.declared.answer.Answer.TheVariants as ans
 ghost use Rattle.account_machine.specs.declared.request.Request.TheVariants.{Unmount, ListFiles};
 ghost use Rattle.account_machine.specs.declared.request.Turn.TheVariants.{Act};
 ghost use Rattle.share_api.specs.Seen.{ShareSeen};
+ghost use Rattle.user_state.specs.Sound.{IsSound};
 ghost use Rattle.user_state.specs.Turns.{IsGiven};
 ghost use Rattle.stored_home.specs.declared.stored.Kept.{Kept as KeptSeen};
 ghost use Rattle.turn_rows.specs.Due.{IsReady, IsDue};
@@ -23,6 +24,10 @@ pub fn unmount(state: &mut UserState) -> Answer
     ensures given { (share : ShareSeen) (account : List ℕ)
         → IsGiven share share state.old state.new (Act (Unmount account)) result }
     ensures answer { result ≡ answers.Ok }
+    ensures sound { IsSound state.old → IsSound state.new }
+    ensures last { state.new.last ≡ state.old.last }
+    ensures doubt { state.new.doubt ≡ state.old.doubt }
+    ensures draws { state.new.generator ≡ state.old.generator }
 {
     state.vault = None;
     Answer::Ok

@@ -4,8 +4,9 @@ ghost use Rattle.std.specs.Prelude.{◌≡◌, ◌+◌, ℕ, List};
 ghost use Rattle.account_machine.specs.declared.answer.Answer.TheVariants as answers;
 ghost use Rattle.account_machine.specs.declared.request.Request.TheVariants.{StartSession, ExtendSession, EndSession};
 ghost use Rattle.account_machine.specs.declared.request.Turn.TheVariants.{Act};
-ghost use Rattle.random_values.specs.Stretches.{stretch};
+ghost use Rattle.random_values.specs.Stretches.{moved, stretch};
 ghost use Rattle.share_api.specs.Seen.{ShareSeen};
+ghost use Rattle.user_state.specs.Sound.{IsSound};
 ghost use Rattle.user_state.specs.Turns.{IsGiven};
 ghost use Rattle.turn_rows.specs.Due.{IsReady, IsDue};
 
@@ -25,6 +26,10 @@ pub fn start_session(state: &mut UserState, intent: Intent) -> Answer
       number = state.old.sessions.next;
       tail = stretch state.old.generator.key state.old.generator.position 4;
     }) }
+    ensures sound { IsSound state.old → IsSound state.new }
+    ensures last { state.new.last ≡ state.old.last }
+    ensures doubt { state.new.doubt ≡ state.old.doubt }
+    ensures draws { state.new.generator ≡ moved state.old.generator 4 }
 {
     // a number is left, since the row's refusals don't apply
     let number = state.sessions.next();
@@ -41,6 +46,10 @@ pub fn extend_session(state: &mut UserState, token: &Token, seconds: u64) -> Ans
     requires due { IsDue state.old (Act (ExtendSession state.old.account token.now seconds)) }
     ensures given { (share : ShareSeen) (account : List ℕ)
         → IsGiven share share state.old state.new (Act (ExtendSession account token.now seconds)) result }
+    ensures sound { IsSound state.old → IsSound state.new }
+    ensures last { state.new.last ≡ state.old.last }
+    ensures doubt { state.new.doubt ≡ state.old.doubt }
+    ensures draws { state.new.generator ≡ state.old.generator }
 {
     let Some(at) = state.sessions.place(token) else {
         unreachable!()
@@ -54,6 +63,10 @@ pub fn end_session(state: &mut UserState, token: &Token) -> Answer
     requires due { IsDue state.old (Act (EndSession state.old.account token.now)) }
     ensures given { (share : ShareSeen) (account : List ℕ)
         → IsGiven share share state.old state.new (Act (EndSession account token.now)) result }
+    ensures sound { IsSound state.old → IsSound state.new }
+    ensures last { state.new.last ≡ state.old.last }
+    ensures doubt { state.new.doubt ≡ state.old.doubt }
+    ensures draws { state.new.generator ≡ state.old.generator }
 {
     let Some(at) = state.sessions.place(token) else {
         unreachable!()

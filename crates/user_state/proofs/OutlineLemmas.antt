@@ -1,5 +1,5 @@
 -- A settled state has the outline of its user.
-use Rattle.std.proofs.Common.{◌≡◌, Option, None, Some, refl, sym, ap, ◌∙◌, subst, ⊎_elim, Bool, map, true≢false}
+use Rattle.std.proofs.Common.{◌≡◌, Option, None, Some, refl, sym, ap, ◌∙◌, subst, inr, ⊎_elim, Bool, map, true≢false}
 use Rattle.std.specs.Prelude.{List, [], ◌∷◌, IsSome, IsSomeAnd, IsTrue, is_some, option_map}
 use Rattle.std.specs.Ordering.{nat_cmp}
 use Rattle.std.specs.Cmp.Lexicographic.{slice_cmp, nat_list_cmp_total}
@@ -25,7 +25,8 @@ use Rattle.stored_home.specs.declared.stored.Stored.{Stored}
 use Rattle.stored_home.proofs.MapLemmas.{from_some, not_None}
 use Rattle.stored_home.proofs.NameLemmas.{file_not_stash}
 use Rattle.stored_home.proofs.FrameLemmas.{same_stash}
-use Rattle.user_state.specs.Fits.{Fits, IsSettled, StandsBy, AreFiles, is_lost}
+use Rattle.stored_home.specs.Coherent.{AreFiles}
+use Rattle.user_state.specs.Fits.{Fits, IsSettled, StandsBy, is_lost}
 use Rattle.user_state.specs.Outlines.{next_in, mark_in, outline_in}
 use Rattle.user_state.specs.declared.state.Doubt.{Doubt}
 use Rattle.user_state.specs.declared.state.UserState.{UserState}
@@ -160,7 +161,7 @@ module _ (lost : Bool) (contents : Contents) (account : Bytes) (durable : Durabl
     none_there : (stash : Option Stash) → stored.stash ≡ stash → ((label : Bytes) → block_in stash label ≡ None)
         → (IsSomeAnd stash (λ s. IsSome s.payload) → ⊥) → (q : Bytes) → IsSome (get stored.files q) → ⊥
     none_there stash is none bare q some =
-        let by : IsNamed account stored (file_name account q) = kept.tidy.records (file_name account q)
+        let by : IsNamed account stored (file_name account q) = kept.tidy.records (file_name account q) (inr (inr (q, refl)))
         (record_there q some) in
         ⊎_elim (λ same. file_not_stash account plain q (named q some) same)
         (λ rest. ⊎_elim

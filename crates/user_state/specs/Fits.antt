@@ -6,6 +6,7 @@ use Rattle.std.specs.Cmp.Lexicographic.{slice_cmp}
 use Rattle.std.specs.FinMap.{FinMap, get}
 use Rattle.name_map.specs.Mapped.{map_values}
 use Rattle.account_machine.specs.declared.factor.Factor.{Factor}
+use Rattle.account_machine.specs.declared.factor.Kind.TheVariants.{Pin}
 use Rattle.account_machine.specs.declared.user.Durable.{Durable}
 use Rattle.account_machine.specs.declared.user.User.{User}
 use Rattle.auth_session.specs.Table.{sessions_in}
@@ -15,7 +16,9 @@ use Rattle.share_api.specs.Contents.{Bytes, Contents}
 use Rattle.share_api.specs.declared.leaf.LeafView.{LeafView}
 use Rattle.stash_format.specs.declared.block.Block.{Block}
 use Rattle.stash_format.specs.declared.contents.Contents.{Contents as Stash}
-use Rattle.stored_home.specs.Holds.{Keys, Holds, HoldsUnder}
+use Rattle.stored_home.specs.Changes.{durable_with_file}
+use Rattle.stored_home.specs.Holds.{Keys, Holds, HoldsUnder, IsFileOf, record_at}
+use Rattle.stored_home.specs.Coherent.{AreFiles}
 use Rattle.stored_home.specs.Loaded.{IsKept}
 use Rattle.stored_home.specs.declared.stored.Stored.{Stored}
 use Rattle.user_state.specs.declared.state.Doubt.{Doubt}
@@ -38,10 +41,6 @@ pub record HasKeys (state : UserState) (keys : Keys) : Type 0 where
 -- whether the tree was lost when the account was loaded
 abbrev pub is_lost : UserState → Bool
 is_lost state = is_some state.stored.lost
-
--- vault files that are there have names of files
-abbrev pub AreFiles : Bytes → Stored → Type 0
-AreFiles account stored = (name : Bytes) → IsSome (get stored.files name) → AreParts (File account name)
 
 -- There is one possible durable part, and what is loaded is what the contents hold.
 pub record IsSettled (state : UserState) (contents : Contents) (user : User) : Type 0 where
@@ -67,20 +66,40 @@ tally_in (Some stash) = Some (stash.next, map_values (λ (block : Block). block.
 abbrev pub view_of : Factor → LeafView
 view_of factor = record { wrong = factor.wrong; last = factor.stamp; schedule = factor.schedule }
 
--- What is kept is what the first durable part shows, and the second shows something else or is the same.
--- Of a vault file: the contents hold the second one where the file's record is the one that was put, and
--- else the first.
+-- The record that was put opens to the bytes that the file has in the second durable part, which is the first one but
+-- for that file. Where the two differ, no other record of the file that is there opens to these bytes.
+pub record TellsFile (vault account name bytes : Bytes) (contents : Contents) (durable other : Durable) : Type 0 where
+  pub plain : Bytes
+  pub named : AreParts (File account name)
+  pub opens : IsFileOf vault account name bytes plain
+  pub other_is : other ≡ durable_with_file durable name plain
+  pub apart : (durable ≡ other) ⊎ IfSome (get contents.records (file_name account name))
+      (λ found. IsFileOf vault account name found plain → found ≡ bytes)
+
+-- The label's factor is a PIN of one edition in both durable parts, whose record names this leaf. What is kept is what
+-- the leaf shows in the first one, and in the second it shows something else or the two are one.
+pub record TellsLeaf (account label : Bytes) (tree : ℕ) (view : LeafView) (contents : Contents)
+    (durable other : Durable) : Type 0 where
+  pub factor : Factor
+  pub later : Factor
+  pub there : get durable.factors label ≡ Some factor
+  pub later_there : get other.factors label ≡ Some later
+  pub is_pin : factor.kind ≡ Pin
+  pub later_is_pin : later.kind ≡ Pin
+  pub edition : later.edition ≡ factor.edition
+  pub names : IfSome (record_at contents.records account label factor.edition) (λ row. row.leaf ≡ Some tree)
+  pub view_is : view ≡ view_of factor
+  pub apart : (durable ≡ other) ⊎ (view_of later ≢ view)
+
+-- What is kept tells whether the contents hold the first durable part or the second: the editions, of which those in
+-- memory are the first one's; a vault file's record, by the vault key of the mount; or what a leaf showed.
 abbrev pub TellsBy : Doubt → UserState → Contents → Durable → Durable → Type 0
 TellsBy Editions state contents durable other =
     (tally_in state.stored.stash ≡ tally_of durable) × ((durable ≡ other) ⊎ (tally_of durable ≢ tally_of other))
 TellsBy (OfFile name bytes) state contents durable other =
-    (get contents.records (file_name state.account name) ≡ Some bytes
-    → Holds (is_lost state) contents state.account other)
-    × (get contents.records (file_name state.account name) ≢ Some bytes
-    → Holds (is_lost state) contents state.account durable)
+    IsSomeAnd state.vault (λ vault. TellsFile vault state.account name bytes contents durable other)
 TellsBy (OfLeaf label tree view) state contents durable other =
-    (factor : Factor) × (get durable.factors label ≡ Some factor) × (view ≡ view_of factor)
-    × ((durable ≡ other) ⊎ ((later : Factor) × (get other.factors label ≡ Some later) × (view_of later ≢ view)))
+    TellsLeaf state.account label tree view contents durable other
 
 -- There are two possible durable parts, and what is kept tells them apart.
 pub record IsUnsettled (doubt : Doubt) (state : UserState) (contents : Contents) (user : User) : Type 0 where

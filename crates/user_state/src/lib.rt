@@ -6,4 +6,4 @@ mod outlined;
 mod state;
 
 pub use laws::settled_state_has_the_users_outline;
-pub use state::{Derived, Doubt, Seen, UserState};
+pub use state::{Doubt, Seen, UserState};

@@ -48,14 +48,6 @@ pub struct UserState {
     pub generator: Generator,
 }
 
-/// The key that was derived of a secret under a salt and a cost.
-#[derive(Drop)]
-pub struct Derived {
-    pub salt: [u8; 16],
-    pub cost: u8,
-    pub key: [u8; 64],
-}
-
 /// What a look shows, so that a key can be derived while no lock is held: the edition, the salt and the
 /// cost of the label's factor, and a new salt. Where there is no such factor there is no edition, the
 /// salt is the new one and the cost that of new factors.
