@@ -1,0 +1,16 @@
+pub mod Tests
+pub mod Tallies
+pub mod EditGiven
+pub mod EndingLemmas
+pub mod StandsIn
+pub mod Drawing
+pub mod Held
+pub mod Factors
+pub mod Keyed
+pub mod Homes
+pub mod FileTells
+pub mod FileRows
+pub mod Removing
+pub mod Setting
+pub mod First
+pub mod ReadRows

@@ -1,0 +1,4 @@
+pub mod Endings
+pub mod Stashes
+pub mod Sessions
+pub mod Reads
