@@ -1,0 +1,14 @@
+pub mod WrongPassword
+pub mod Loading
+pub mod Tried
+pub mod Tally
+pub mod Proving
+pub mod Bindings
+pub mod Checking
+pub mod Mounting
+pub mod Looking
+pub mod Counting
+pub mod Lines
+pub mod Listed
+pub mod Forms
+pub mod Sounds

@@ -1,0 +1,6 @@
+pub mod Opening
+pub mod Checked
+pub mod Binding
+pub mod Passwords
+pub mod Mounts
+pub mod Listing
