@@ -1,0 +1,3 @@
+pub mod EditionLemmas
+pub mod EvidenceLemmas
+pub mod ReloadLemmas
