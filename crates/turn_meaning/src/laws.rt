@@ -1,0 +1,25 @@
+//! The laws that join a turn to all accounts. Each function has an empty body: its contract is the law.
+
+ghost use Rattle.std.specs.Prelude.{◌≡◌};
+ghost use Rattle.account_machine.specs.declared.entry.Entry.{Entry};
+ghost use Rattle.home_locks.specs.Turns.{ActStands};
+ghost use Rattle.share_api.specs.Seen.{ShareSeen};
+ghost use Rattle.user_state.specs.declared.state.UserState.{UserState};
+ghost use Rattle.user_turn.specs.Acts.{IsAct};
+ghost use Rattle.turn_meaning.specs.Meanings.{user_rules, entry_of};
+ghost use Rattle.turn_meaning.specs.Secrets.{SecretsLaw, CleanLaw};
+ghost use Rattle.turn_meaning.specs.declared.taken.TurnTaken.{TurnTaken as Taken};
+
+/// What one turn of an account promises over any share is what the composition needs of a turn.
+pub fn act_stands()
+    ensures { (old new : ShareSeen) (before after : UserState) (taken : Taken)
+        → IsAct old new before after (entry_of taken)
+        → ActStands (user_rules old.era) before after taken old new }
+{}
+
+/// No secret comes to a user but with a request. So where no two inputs coincide that are recorded of the user at
+/// first, of the book and of the contents seen, each turn of the book is clean.
+pub fn secrets_come_with_requests()
+    ensures secrets { SecretsLaw }
+    ensures clean { CleanLaw }
+{}

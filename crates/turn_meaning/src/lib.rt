@@ -1,0 +1,8 @@
+//! One turn of an account as the composition of all accounts takes it.
+#![tactic(auto)]
+
+mod laws;
+mod taken;
+
+pub use laws::{act_stands, secrets_come_with_requests};
+pub use taken::TurnTaken;

@@ -1,0 +1,5 @@
+pub mod CleanParts
+pub mod Resting
+pub mod Turning
+pub mod AtMoments
+pub mod Clearing
