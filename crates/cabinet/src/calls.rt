@@ -146,6 +146,13 @@ impl<B: Board> Cabinet<B> {
         &self.accounts
     }
 
+    /// For how many names there is room.
+    pub fn most(&self) -> usize
+        ensures value { result ≡ most_of self.now }
+    {
+        self.most
+    }
+
     /// The board.
     pub fn into_board(self) -> B
         ensures value { result ≡ board_of self }

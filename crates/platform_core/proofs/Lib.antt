@@ -6,5 +6,6 @@ pub mod UnsureLemmas
 pub mod PickLemmas
 pub mod LookLemmas
 pub mod StepLemmas
+pub mod ShownLemmas
 pub mod ChainLemmas
 pub mod OpeningLemmas

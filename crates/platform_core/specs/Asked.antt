@@ -1,16 +1,19 @@
 -- What a step on records asks, and what its reply tells.
-use Rattle.std.specs.Prelude.{◌≡◌, ◌⊎◌, ℕ, ◌<◌, ◌≤◌, List, [], ◌∷◌, length, take, option_map, Option, None, Some, Bool, true, false}
+use Rattle.std.specs.Prelude.{◌≡◌, ◌⊎◌, ℕ, ◌≤◌, List, [], ◌∷◌, length, take, option_map, Option, None, Some, Bool}
+use Rattle.std.specs.Prelude.{true, false, IsSorted}
+use Rattle.std.specs.Ordering.{nat_cmp}
+use Rattle.std.specs.Cmp.Lexicographic.{slice_cmp}
 use Rattle.std.specs.FinMap.{get}
 use Rattle.board_model.specs.Disk.{Image}
 use Rattle.cabinet.specs.Edits.{Edit, File}
 use Rattle.cabinet.specs.Names.{HasRoom, with_name}
 use Rattle.share_api.specs.Contents.{Bytes}
-use Rattle.share_api.specs.declared.step.Write.{Write}
 use Rattle.share_api.specs.declared.step.Write.TheVariants.{Put, Remove, RemoveLeaf}
 use Rattle.share_api.specs.declared.step.Op.{Op}
 use Rattle.share_api.specs.declared.step.Op.TheVariants.{Names, Get, Do, InsertLeaf, TryLeaf, ResetLeaf, LookLeaf}
 use Rattle.share_api.specs.declared.step.Reply.{Reply}
-use Rattle.share_api.specs.declared.step.Reply.TheVariants.{Done, Found, Listed, Labelled, Tried, Fits, Viewed, TreeLost, Damaged, Failed, NoMemory}
+use Rattle.share_api.specs.declared.step.Reply.TheVariants.{Done, Found, Listed, Labelled, Tried, Fits, Viewed}
+use Rattle.share_api.specs.declared.step.Reply.TheVariants.{TreeLost, Damaged, Failed, NoMemory}
 use Rattle.platform_core.specs.Records.{IsRecordOf, AreNames}
 use Rattle.platform_core.specs.Picks.{AreFewer}
 
@@ -102,6 +105,44 @@ IsDone (Fits fits) = ⊥
 IsDone (Viewed view) = ⊥
 IsDone TreeLost = ⊥
 IsDone Damaged = ⊥
+
+-- a reply with names in rising order of bytes and no labels, or a fault
+abbrev pub IsListing : Reply → Type 0
+IsListing (Listed listing) = IsSorted (slice_cmp nat_cmp) listing.0 × (listing.1 ≡ [])
+IsListing Failed = Unit {0}
+IsListing NoMemory = Unit {0}
+IsListing (Found found) = ⊥
+IsListing Done = ⊥
+IsListing (Labelled label) = ⊥
+IsListing (Tried answer) = ⊥
+IsListing (Fits fits) = ⊥
+IsListing (Viewed view) = ⊥
+IsListing TreeLost = ⊥
+IsListing Damaged = ⊥
+
+-- a reply with what was found, or a fault
+abbrev pub IsFinding : Reply → Type 0
+IsFinding (Found found) = Unit {0}
+IsFinding Failed = Unit {0}
+IsFinding NoMemory = Unit {0}
+IsFinding Done = ⊥
+IsFinding (Listed listing) = ⊥
+IsFinding (Labelled label) = ⊥
+IsFinding (Tried answer) = ⊥
+IsFinding (Fits fits) = ⊥
+IsFinding (Viewed view) = ⊥
+IsFinding TreeLost = ⊥
+IsFinding Damaged = ⊥
+
+-- the reply is one to this step, whether the board tells its content or not
+abbrev pub IsReplyTo : Op → Reply → Type 0
+IsReplyTo Names reply = IsListing reply
+IsReplyTo (Get name) reply = IsFinding reply
+IsReplyTo (Do write) reply = IsDone reply
+IsReplyTo (InsertLeaf leaf) reply = ⊥
+IsReplyTo (TryLeaf label secret) reply = ⊥
+IsReplyTo (ResetLeaf label secret) reply = ⊥
+IsReplyTo (LookLeaf label) reply = ⊥
 
 -- the reply with the account's names, and no labels
 abbrev pub IsListed : Bytes → Image → Reply → Type 0

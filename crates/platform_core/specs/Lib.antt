@@ -1,6 +1,7 @@
 pub mod Unsure
 pub mod Picks
 pub mod Records
+pub mod Shown
 pub mod Asked
 pub mod Standing
 pub mod Kept

@@ -1,5 +1,6 @@
 -- The accounts' records in an image.
-use Rattle.std.specs.Prelude.{◌≡◌, ◌≢◌, ℕ, ◌<◌, List, [], get_or, take, option_map, None, IsSome, Contains, bytes_eq, IsSorted}
+use Rattle.std.specs.Prelude.{◌≡◌, ◌≢◌, ℕ, ◌<◌, List, [], get_or, take, option_map, None, IsSome, Contains, bytes_eq}
+use Rattle.std.specs.Prelude.{IsSorted}
 use Rattle.std.specs.List.{IsDistinct}
 use Rattle.std.specs.Ordering.{nat_cmp}
 use Rattle.std.specs.Cmp.Lexicographic.{slice_cmp}
@@ -37,6 +38,14 @@ AreDistinct accounts = IsDistinct bytes_eq accounts
 -- the image has these contents of the accounts
 abbrev pub Shows : List Bytes → Image → ByAccount Contents → Type 0
 Shows accounts image parts = (number : ℕ) → AreContents image (account_at accounts number) (parts number)
+
+-- the image shows some contents of the accounts
+abbrev pub ShowsSome : List Bytes → Image → Type 0
+ShowsSome accounts image = (parts : ByAccount Contents) × Shows accounts image parts
+
+-- each of these images does
+abbrev pub AllShow : List Bytes → (Image → Type 0) → Type 0
+AllShow accounts images = (image : Image) → images image → ShowsSome accounts image
 
 -- the names are those of the account's records that are there, each once, in rising order of bytes
 pub record AreNames (account : Bytes) (now : Image) (names : List Bytes) : Type 0 where

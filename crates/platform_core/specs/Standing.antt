@@ -1,5 +1,6 @@
 -- What a step does, and what stands after a list of steps.
-use Rattle.std.specs.Prelude.{◌≡◌, ◌≢◌, ◌⊎◌, ◌≤◌, ℕ, List, [], Some, IsSome, IfSome, Bool, false}
+use Rattle.std.specs.Prelude.{◌≡◌, ◌≢◌, ◌⊎◌, ◌≤◌, ℕ, List, [], None, Some, IsSome, IfSome, Bool, false}
+use Rattle.std.specs.FinMap.{empty}
 use Rattle.board_model.specs.Disk.{Image, Disk, Goes, Unchanged}
 use Rattle.cabinet.specs.Edits.{Edits, After, Agrees, IsSettled}
 use Rattle.pw_types.specs.declared.era.Era.{Era}
@@ -38,7 +39,8 @@ pub record Answers (account : Bytes) (old new : Disk) (before after : Memory) (o
   pub edits : Edits old new (edits_of op) (reply ≢ Failed)
   pub done_or_not : Goes old new (After []) ⊎ Goes old new (After (edits_of op))
   pub agrees : Agrees old → Agrees new
-  pub named : (now then : Image) → old.now ≡ Some now → new.now ≡ Some then → NamesKnown now before → NamesKnown then after
+  pub named : (now then : Image) → old.now ≡ Some now → new.now ≡ Some then → NamesKnown now before
+      → NamesKnown then after
   pub tells : (now : Image) → old.now ≡ Some now → NamesKnown now before → Tells account op reply now
 
 -- the board was read, and no name was added
@@ -50,6 +52,11 @@ pub record Looked (old new : Disk) (before after : Memory) : Type 0 where
 -- the contents are those that are there, where the board tells its content
 abbrev pub AreThere : List Bytes → Disk → ByAccount Contents → Type 0
 AreThere accounts disk parts = IfSome disk.now (λ now. Shows accounts now parts)
+
+-- the step leaves contents without leaves as they are
+abbrev pub IsIdle : Era → Step → Type 0
+IsIdle era step = (contents : Contents) → contents.leaves ≡ empty → contents.doubt ≡ None
+    → Does era contents step contents
 
 module _ (era : Era) (accounts : List Bytes) where
   -- At each moment each image has the accounts' contents with the step or without it; after it with the step,
@@ -67,7 +74,8 @@ module _ (era : Era) (accounts : List Bytes) where
       StandsSince number_of (Does era) (Shows accounts) since first tick ended disk chain
 
   -- What a platform is to the one that a run began with, whose board was settled, and to the steps since.
-  pub record ChainStands (first : Disk) (start : Memory) (now : Disk) (memory : Memory) (unsettled : Bool) (chain : List Step) : Type 0 where
+  pub record ChainStands (first : Disk) (start : Memory) (now : Disk) (memory : Memory) (unsettled : Bool)
+      (chain : List Step) : Type 0 where
     pub right : IsRight first start false → IsRight now memory unsettled
     pub stands : IsRight first start false → (parts : ByAccount Contents) → AreThere accounts first parts
         → RecordsStand first.ticks parts now chain

@@ -1,16 +1,19 @@
 //! How a platform is opened.
 
-ghost use Rattle.std.specs.Prelude.{◌≡◌, ◌⊎◌, ◌↔◌, ℕ, ◌+◌, ◌<◌, length, IfOk, IfErr, IfSome, IsErrOf, MatchResult, false};
+ghost use Rattle.std.specs.Prelude.{◌≡◌, ◌⊎◌, ◌↔◌, ℕ, ◌+◌, ◌<◌, length, false};
+ghost use Rattle.std.specs.Prelude.{IfOk, IfErr, IfSome, IsErrOf, MatchResult};
 ghost use Rattle.std.specs.FinMap.{keys};
 ghost use Rattle.fault_count.specs.Causes.{HasCause};
-ghost use Rattle.board_model.specs.Disk.{Leaves, Goes, Unchanged};
+ghost use Rattle.board_model.specs.Disk.{Image, Leaves, Goes, Unchanged};
 ghost use Rattle.staged_file.specs.Staged.{Kept};
 ghost use Rattle.cabinet.specs.Edits.{Agrees};
 ghost use Rattle.cabinet.specs.Opening.{Opened};
 ghost use Rattle.cabinet.specs.declared.fault.CabinetFault.{CabinetFault};
+ghost use Rattle.platform_core.specs.Records.{Shows};
 ghost use Rattle.platform_core.specs.Standing.{IsTold, IsRight};
 ghost use Rattle.platform_core.specs.Opening.{IsOpenFault};
-ghost use Rattle.platform_core.specs.Held.{board_of, accounts_of, names_of, most_of, memory_of, is_unsettled};
+ghost use Rattle.platform_core.specs.Held.{board_of, accounts_of, names_of, most_of, memory_of, contents_of};
+ghost use Rattle.platform_core.specs.Held.{is_unsettled};
 
 use crate::fault::OpenFault;
 use crate::platform::Platform;
@@ -77,6 +80,10 @@ impl<B: Board> Platform<B> {
         ensures right { IfOk result (λ platform. IsTold (B.disk board) → Agrees (B.disk board)
             → IsRight (B.disk (board_of platform)) (memory_of platform) (is_unsettled platform)) }
         ensures settled { IfOk result (λ platform. is_unsettled platform ≡ false) }
+        // And each shows contents of the accounts: those under the names that are held.
+        ensures shown { IfOk result (λ platform. IsTold (B.disk board) → Agrees (B.disk board)
+            → (image : Image) → (B.disk (board_of platform)).may_leave image
+            → Shows (accounts_of platform) image (contents_of (B.disk (board_of platform)) platform)) }
         ensures fault { IfErr result (λ refused. IsOpenFault (B.disk board) accounts.items refused.0) }
         // At each moment the files that aren't temporary and the words are as they were.
         ensures any_moment { MatchResult result

@@ -12,9 +12,10 @@ ghost use Rattle.share_api.specs.declared.step.Op.{Op};
 ghost use Rattle.share_api.specs.declared.step.Reply.{Reply};
 ghost use Rattle.share_api.specs.declared.step.Step.{Step};
 ghost use Rattle.image_path.specs.Showing.{ByAccount};
-ghost use Rattle.platform_core.specs.Records.{account_at, AreDistinct};
-ghost use Rattle.platform_core.specs.Asked.{IsOwn, HasRoomFor, edits_of, NamesGo, has_failed};
-ghost use Rattle.platform_core.specs.Standing.{IsRight, Answers, AccountsGo, RecordsStand, RecordsStandSince, ChainStands};
+ghost use Rattle.platform_core.specs.Records.{account_at, AreDistinct, AllShow};
+ghost use Rattle.platform_core.specs.Asked.{IsOwn, HasRoomFor, edits_of, NamesGo, has_failed, IsDone, IsReplyTo};
+ghost use Rattle.platform_core.specs.Standing.{IsRight, Answers, AccountsGo};
+ghost use Rattle.platform_core.specs.Standing.{RecordsStand, RecordsStandSince, ChainStands};
 ghost use Rattle.platform_core.specs.Held.{board_of, accounts_of, names_of, most_of, memory_of, is_unsettled};
 ghost use Rattle.platform_core.specs.declared.platform.Platform.{Platform};
 
@@ -52,7 +53,9 @@ fn change<B: Board>(records: &mut Records<B>, write: &Write) -> Reply
     requires own { (account : Bytes) × IsOwn account (Op.Do write.now) }
     requires room { HasRoomFor (kept.names_of records.old) (kept.most_of records.old) (Op.Do write.now) }
     ensures answers { (account : Bytes) → Answers account (B.disk (kept.board_of records.old))
-        (B.disk (kept.board_of records.new)) (kept.memory_of records.old) (kept.memory_of records.new) (Op.Do write.now) result }
+        (B.disk (kept.board_of records.new)) (kept.memory_of records.old)
+        (kept.memory_of records.new) (Op.Do write.now) result }
+    ensures replied { IsDone result }
     ensures cause { HasCause (B.faults (kept.board_of records.old)) (B.faults (kept.board_of records.new))
         (result ≡ Reply.Failed) }
     ensures names { NamesGo (Op.Do write.now) (kept.names_of records.old) (kept.names_of records.new) }
@@ -72,7 +75,9 @@ fn answer<B: Board>(records: &mut Records<B>, alloc: Global, account: usize, op:
     requires own { IsOwn (account_at (kept.accounts_of records.old) account) op.now }
     requires room { HasRoomFor (kept.names_of records.old) (kept.most_of records.old) op.now }
     ensures answers { Answers (account_at (kept.accounts_of records.old) account)
-        (B.disk (kept.board_of records.old)) (B.disk (kept.board_of records.new)) (kept.memory_of records.old) (kept.memory_of records.new) op.now result }
+        (B.disk (kept.board_of records.old)) (B.disk (kept.board_of records.new)) (kept.memory_of records.old)
+        (kept.memory_of records.new) op.now result }
+    ensures replied { IsReplyTo op.now result }
     ensures cause { HasCause (B.faults (kept.board_of records.old)) (B.faults (kept.board_of records.new))
         (result ≡ Reply.Failed) }
     ensures names { NamesGo op.now (kept.names_of records.old) (kept.names_of records.new) }
@@ -100,6 +105,7 @@ fn work<B: Board>(
     requires room { HasRoomFor (kept.names_of records.old) (kept.most_of records.old) op.now }
     ensures edits { Edits (B.disk (kept.board_of records.old)) (B.disk (kept.board_of records.new))
         (edits_of op.now) (result ≢ Reply.Failed) }
+    ensures replied { IsReplyTo op.now result }
     ensures right { IsRight (B.disk (kept.board_of records.old)) (kept.memory_of records.old) unsettled
         → IsRight (B.disk (kept.board_of records.new)) (kept.memory_of records.new) (has_failed result) }
     ensures goes { (era : Era) (moment : ℕ)
@@ -144,6 +150,15 @@ impl<B: Board> Platform<B> {
             (result.reply ≢ Reply.Failed) }
         ensures right { IsRight (B.disk (board_of self.old)) (memory_of self.old) (is_unsettled self.old)
             → IsRight (B.disk (board_of self.new)) (memory_of self.new) (is_unsettled self.new) }
+        ensures replied { IsReplyTo op result.reply }
+        // Where each image shows contents before the step, each does at each moment of it, and after it.
+        ensures shown { IsRight (B.disk (board_of self.old)) (memory_of self.old) (is_unsettled self.old)
+            → AllShow (accounts_of self.old) (B.disk (board_of self.old)).may_leave
+            → AllShow (accounts_of self.old)
+            ((B.disk (board_of self.new)).left_since (B.disk (board_of self.old)).ticks) }
+        ensures shown_after { IsRight (B.disk (board_of self.old)) (memory_of self.old) (is_unsettled self.old)
+            → AllShow (accounts_of self.old) (B.disk (board_of self.old)).may_leave
+            → AllShow (accounts_of self.old) (B.disk (board_of self.new)).may_leave }
         // The account's contents go by what its reply says, and the other accounts' stay.
         ensures goes { (era : Era) → IsRight (B.disk (board_of self.old)) (memory_of self.old) (is_unsettled self.old)
             → AccountsGo era (accounts_of self.old) (B.disk (board_of self.old)) (B.disk (board_of self.new)) result }

@@ -14,6 +14,7 @@ ghost use Rattle.share_api.specs.declared.step.Op.{Op};
 ghost use Rattle.share_api.specs.declared.step.Write.{Write};
 ghost use Rattle.share_api.specs.declared.step.Reply.{Reply};
 ghost use Rattle.platform_core.specs.Records.{account_at, AreNames};
+ghost use Rattle.platform_core.specs.Asked.{IsFinding, IsDone, IsListing};
 ghost use Rattle.platform_core.specs.Picks.{Picked, Adds, AreFewer};
 ghost use Rattle.platform_core.specs.Standing.{Answers, Looked};
 ghost use Rattle.platform_core.specs.Unsure.{NamesKnown};
@@ -44,6 +45,7 @@ impl<B: Board> Records<B> {
     pub(crate) fn get(&mut self, alloc: Global, name: &RecordName) -> Reply
         ensures answers { (account : Bytes) → Answers account (B.disk (board_of self.old)) (B.disk (board_of self.new))
             (memory_of self.old) (memory_of self.new) (Op.Get name.now) result }
+        ensures replied { IsFinding result }
         ensures cause { HasCause (B.faults (board_of self.old)) (B.faults (board_of self.new))
             (result ≡ Reply.Failed) }
         ensures fewer { AreFewer (names_of self.old) (names_of self.new) }
@@ -66,6 +68,7 @@ impl<B: Board> Records<B> {
         requires size { length bytes.now ≤ 49181 }
         ensures answers { (account : Bytes) → Answers account (B.disk (board_of self.old)) (B.disk (board_of self.new))
             (memory_of self.old) (memory_of self.new) (Op.Do (Write.Put name.now bytes.now)) result }
+        ensures replied { IsDone result }
         ensures cause { HasCause (B.faults (board_of self.old)) (B.faults (board_of self.new))
             (result ≡ Reply.Failed) }
         ensures names { names_of self.new ≡ with_name (names_of self.old) name.now }
@@ -88,6 +91,7 @@ impl<B: Board> Records<B> {
     pub(crate) fn remove(&mut self, name: &RecordName) -> Reply
         ensures answers { (account : Bytes) → Answers account (B.disk (board_of self.old)) (B.disk (board_of self.new))
             (memory_of self.old) (memory_of self.new) (Op.Do (Write.Remove name.now)) result }
+        ensures replied { IsDone result }
         ensures cause { HasCause (B.faults (board_of self.old)) (B.faults (board_of self.new))
             (result ≡ Reply.Failed) }
         ensures fewer { AreFewer (names_of self.old) (names_of self.new) }
@@ -198,6 +202,7 @@ impl<B: Board> Records<B> {
         ensures listed { IfOk result (λ names. (now : Image) → (B.disk (board_of self.old)).now ≡ Some now
             → NamesKnown now (memory_of self.old)
             → AreNames (account_at (accounts_of self.old) account) now names.items) }
+        ensures rising { IfOk result (λ names. IsSorted (slice_cmp nat_cmp) names.items) }
         ensures looked { Looked (B.disk (board_of self.old)) (B.disk (board_of self.new)) (memory_of self.old)
             (memory_of self.new) }
         ensures cause { HasCause (B.faults (board_of self.old)) (B.faults (board_of self.new))
@@ -220,6 +225,7 @@ impl<B: Board> Records<B> {
         requires { account < length (accounts_of self.old) }
         ensures answers { Answers (account_at (accounts_of self.old) account) (B.disk (board_of self.old))
             (B.disk (board_of self.new)) (memory_of self.old) (memory_of self.new) Op.Names result }
+        ensures replied { IsListing result }
         ensures cause { HasCause (B.faults (board_of self.old)) (B.faults (board_of self.new))
             (result ≡ Reply.Failed) }
         ensures fewer { AreFewer (names_of self.old) (names_of self.new) }

@@ -8,14 +8,18 @@ use Rattle.platform_core.proofs.step.settle.Goals as goal
 
 pub returns-then-unsettled-clause-right : goal.returns-then-unsettled-clause-right
 returns-then-unsettled-clause-right g c =
-    right_unchanged (g.B.Board.disk (board_of c.args.records.now)) (g.B.Board.disk (cabinets.board_of c.settle.new.self)) (memory_of c.args.records.now) _ c.args.unsettled c.settle.ensures.unchanged c.settle.ensures.names refl
+    right_unchanged (g.B.Board.disk (board_of c.args.records.now)) (g.B.Board.disk
+    (cabinets.board_of c.settle.new.self)) (memory_of c.args.records.now) _ c.args.unsettled
+    c.settle.ensures.unchanged c.settle.ensures.names refl
 
 -- the sync makes certain what is there
 pub returns-then-unsettled-clause-settled : goal.returns-then-unsettled-clause-settled
-returns-then-unsettled-clause-settled g c = on_ok_from c.settle.result (λ ok right. c.settle.ensures.settled ok right.agrees)
+returns-then-unsettled-clause-settled g c = on_ok_from c.settle.result
+    (λ ok right. c.settle.ensures.settled ok right.agrees)
 
 pub returns-else-unsettled-clause-quiet : goal.returns-else-unsettled-clause-quiet
-returns-else-unsettled-clause-quiet g c = leaves_none (g.B.Board.disk (board_of c.args.records.now)) Same (λ i. refl) (g.met.B.Board.only_now (board_of c.args.records.now))
+returns-else-unsettled-clause-quiet g c = leaves_none (g.B.Board.disk (board_of c.args.records.now)) Same (λ i. refl)
+    (g.met.B.Board.only_now (board_of c.args.records.now))
 
 pub returns-else-unsettled-clause-goes : goal.returns-else-unsettled-clause-goes
 returns-else-unsettled-clause-goes g c = goes_same (g.B.Board.disk (board_of c.args.records.now))

@@ -16,9 +16,12 @@ returns-in-Ok-clause-answers g c = λ account.
     let b = g.B.Board.disk (cabinets.board_of c.put.new.self) in
     let name = c.args.name.now in
     changed_answers account a b (memory_of c.args.self.now) _
-    (λ now then told after known. known_without a b (memory_of c.args.self.now) (cabinets.names_of c.put.new.self) c.without-self.result name now then told after known c.without-self.ensures
-    (subst (λ r. KeepsNames (unsure_changed (is_ok r) name) a (cabinets.names_of c.args.self.now.cabinet) b (cabinets.names_of c.put.new.self)) c.in-Ok.is c.put.ensures.named))
-    (Put name c.args.bytes.now) (File name (Some c.args.bytes.now)) (IsOk c.put.result) Done refl tt (λ ok. ap is_ok c.in-Ok.is) c.put.ensures.changes
+    (λ now then told after known. known_without a b (memory_of c.args.self.now)
+    (cabinets.names_of c.put.new.self) c.without-self.result name now then told after known c.without-self.ensures
+    (subst (λ r. KeepsNames (unsure_changed (is_ok r) name) a (cabinets.names_of c.args.self.now.cabinet) b
+    (cabinets.names_of c.put.new.self)) c.in-Ok.is c.put.ensures.named))
+    (Put name c.args.bytes.now) (File name (Some c.args.bytes.now)) (IsOk c.put.result) Done refl tt
+    (λ ok. ap is_ok c.in-Ok.is) c.put.ensures.changes
 
 -- a name whose put failed is unsure
 pub returns-in-Err-clause-answers : goal.returns-in-Err-clause-answers
@@ -27,6 +30,9 @@ returns-in-Err-clause-answers g c = λ account.
     let b = g.B.Board.disk (cabinets.board_of c.put.new.self) in
     let name = c.args.name.now in
     changed_answers account a b (memory_of c.args.self.now) _
-    (λ now then told after known. known_with a b (memory_of c.args.self.now) (cabinets.names_of c.put.new.self) c.with-self.result name now then told after known c.with-self.ensures
-    (subst (λ r. KeepsNames (unsure_changed (is_ok r) name) a (cabinets.names_of c.args.self.now.cabinet) b (cabinets.names_of c.put.new.self)) c.in-Err.is c.put.ensures.named))
-    (Put name c.args.bytes.now) (File name (Some c.args.bytes.now)) (IsOk c.put.result) Failed refl tt (λ ok. absurd (ok refl)) c.put.ensures.changes
+    (λ now then told after known. known_with a b (memory_of c.args.self.now)
+    (cabinets.names_of c.put.new.self) c.with-self.result name now then told after known c.with-self.ensures
+    (subst (λ r. KeepsNames (unsure_changed (is_ok r) name) a (cabinets.names_of c.args.self.now.cabinet) b
+    (cabinets.names_of c.put.new.self)) c.in-Err.is c.put.ensures.named))
+    (Put name c.args.bytes.now) (File name (Some c.args.bytes.now)) (IsOk c.put.result) Failed refl tt
+    (λ ok. absurd (ok refl)) c.put.ensures.changes

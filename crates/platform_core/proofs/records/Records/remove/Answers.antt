@@ -19,9 +19,13 @@ returns-in-Ok-clause-answers g c = λ account.
     let b = g.B.Board.disk (cabinets.board_of c.remove.new.self) in
     let name = c.args.name.now in
     changed_answers account a b (memory_of c.args.self.now) _
-    (λ now next told after known. known_without a b (memory_of c.args.self.now) (cabinets.names_of c.remove.new.self) c.without-self.result name now next told after known c.without-self.ensures
-    (subst (λ r. KeepsNames (unsure_changed (is_ok r) name) a (cabinets.names_of c.args.self.now.cabinet) b (cabinets.names_of c.remove.new.self)) c.in-Ok.is c.remove.ensures.named))
-    (Remove name) (File name None) (IsOk c.remove.result) Done refl tt (λ ok. ap is_ok c.in-Ok.is) c.remove.ensures.changes
+    (λ now next told after known. known_without a b (memory_of c.args.self.now)
+    (cabinets.names_of c.remove.new.self) c.without-self.result name now next told after known
+    c.without-self.ensures
+    (subst (λ r. KeepsNames (unsure_changed (is_ok r) name) a (cabinets.names_of c.args.self.now.cabinet) b
+    (cabinets.names_of c.remove.new.self)) c.in-Ok.is c.remove.ensures.named))
+    (Remove name) (File name None) (IsOk c.remove.result) Done refl tt
+    (λ ok. ap is_ok c.in-Ok.is) c.remove.ensures.changes
 
 -- a name whose removal failed is unsure
 pub returns-in-Err-clause-answers : goal.returns-in-Err-clause-answers
@@ -30,16 +34,21 @@ returns-in-Err-clause-answers g c = λ account.
     let b = g.B.Board.disk (cabinets.board_of c.remove.new.self) in
     let name = c.args.name.now in
     changed_answers account a b (memory_of c.args.self.now) _
-    (λ now next told after known. known_with a b (memory_of c.args.self.now) (cabinets.names_of c.remove.new.self) c.with-self.result name now next told after known c.with-self.ensures
-    (subst (λ r. KeepsNames (unsure_changed (is_ok r) name) a (cabinets.names_of c.args.self.now.cabinet) b (cabinets.names_of c.remove.new.self)) c.in-Err.is c.remove.ensures.named))
-    (Remove name) (File name None) (IsOk c.remove.result) Failed refl tt (λ ok. absurd (ok refl)) c.remove.ensures.changes
+    (λ now next told after known. known_with a b (memory_of c.args.self.now)
+    (cabinets.names_of c.remove.new.self) c.with-self.result name now next told after known c.with-self.ensures
+    (subst (λ r. KeepsNames (unsure_changed (is_ok r) name) a (cabinets.names_of c.args.self.now.cabinet) b
+    (cabinets.names_of c.remove.new.self)) c.in-Err.is c.remove.ensures.named))
+    (Remove name) (File name None) (IsOk c.remove.result) Failed refl tt
+    (λ ok. absurd (ok refl)) c.remove.ensures.changes
 
 pub returns-in-Ok-clause-fewer : goal.returns-in-Ok-clause-fewer
 returns-in-Ok-clause-fewer g c =
     let names = cabinets.names_of c.args.self.now.cabinet in
-    subst (AreFewer names) (sym (c.remove.ensures.names ∙ ap (λ r. if is_ok r then without_name names c.args.name.now else names) c.in-Ok.is)) (fewer_without names c.args.name.now)
+    subst (AreFewer names) (sym (c.remove.ensures.names ∙ ap (λ r. if is_ok r then without_name names
+    c.args.name.now else names) c.in-Ok.is)) (fewer_without names c.args.name.now)
 
 pub returns-in-Err-clause-fewer : goal.returns-in-Err-clause-fewer
 returns-in-Err-clause-fewer g c =
     let names = cabinets.names_of c.args.self.now.cabinet in
-    fewer_same names (cabinets.names_of c.remove.new.self) (c.remove.ensures.names ∙ ap (λ r. if is_ok r then without_name names c.args.name.now else names) c.in-Err.is)
+    fewer_same names (cabinets.names_of c.remove.new.self) (c.remove.ensures.names
+    ∙ ap (λ r. if is_ok r then without_name names c.args.name.now else names) c.in-Err.is)

@@ -13,7 +13,8 @@ use Rattle.platform_core.proofs.records.Records.those_there.Given as goal
 -- those among the names so far, and that the names that are left stay held
 abbrev pub invariant-loop-name : goal.invariant-loop-name
 invariant-loop-name g l = record {
-  looked : Looked (g.B.Board.disk (board_of l.fn.self)) (g.B.Board.disk (board_of l.self)) (memory_of l.fn.self) (memory_of l.self);
+  looked : Looked (g.B.Board.disk (board_of l.fn.self)) (g.B.Board.disk (board_of l.self)) (memory_of l.fn.self)
+      (memory_of l.self);
   picked : (now : Image) → (g.B.Board.disk (board_of l.fn.self)).now ≡ Some now → NamesKnown now (memory_of l.fn.self)
       → IsDistinct bytes_eq l.own
       → ((q : List ℕ) → Contains l.own q → Contains (names_of l.fn.self) q)
