@@ -22,6 +22,10 @@ look_rules = record {
   fits = λ state contents user. Unit {0};
 }
 
+-- a turn's number stays, and is told
+abbrev pub TellsNumber : ℕ → ℕ → ℕ → Type 0
+TellsNumber asked done told = (done ≡ asked) × (told ≡ done)
+
 -- each account has 0 in the image
 abbrev pub IsBlankImage : ByAccount ℕ → Type 0
 IsBlankImage image = (account : ℕ) → image account ≡ 0

@@ -3,10 +3,12 @@
 
 mod device;
 mod looks;
+mod records;
 #[cfg(test)]
 mod shares;
 mod walk;
 
 pub use device::CountingDevice;
 pub use looks::LookTurns;
+pub use records::RecordTurns;
 pub use walk::{look_at, looks_of_two};

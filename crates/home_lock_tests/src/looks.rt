@@ -10,7 +10,7 @@ use std::alloc::Global;
 pub struct LookTurns;
 
 impl AccountTurns for LookTurns {
-    ghost use Rattle.home_lock_tests.specs.Looks.{look_rules, IsBlankImage, looks_recover};
+    ghost use Rattle.home_lock_tests.specs.Looks.{look_rules, IsBlankImage, TellsNumber, looks_recover};
 
     type Platform = CountingDevice;
 
@@ -22,26 +22,32 @@ impl AccountTurns for LookTurns {
 
     type Turn = u64;
 
+    type Told = u64;
+
     type State = u8;
 
     ghost rules = { λ era. look_rules };
 
+    ghost tells = { TellsNumber };
+
     ghost contents = { λ device account. 0 };
 
-    ghost images = { λ device. IsBlankImage };
+    ghost opened = { λ device. Unit {0} };
 
-    ghost recovers = { λ first now chain stands. looks_recover chain };
+    ghost images = { λ first now. IsBlankImage };
+
+    ghost recovers = { λ first now chain opened stands. looks_recover chain };
 
     fn blank() -> u64 {
         0
     }
 
-    fn act<S: Share>(alloc: Global, share: &mut S, state: &mut u8, turn: u64) -> u64 {
+    fn act<S: Share>(alloc: Global, share: &mut S, state: &mut u8, turn: u64) -> (u64, u64) {
         let _ = state;
         if share.stock(alloc, 1).is_err() {
-            return turn;
+            return (turn, turn);
         }
         let _ = share.leaf(Label::new(0).unwrap());
-        turn
+        (turn, turn)
     }
 }

@@ -1,17 +1,21 @@
 -- The value behind an account's lock after a turn.
-use Rattle.std.proofs.Common.{◌≡◌, ℕ, ◌%◌, ◌^◌, length, List, [], ◌∷◌, ◌++◌, Option, None, Some, sym, ap, ◌∙◌, subst}
+use Rattle.std.proofs.Common.{◌≡◌, ℕ, ◌+◌, ◌%◌, ◌^◌, Bool, true, false, length, List, [], ◌∷◌, ◌++◌, Option, None, Some, refl, sym, ap, ◌∙◌, subst, append_assoc}
+use Rattle.std.proofs.lemmas.List.{length-append}
+use Rattle.std.specs.Prelude.{◌==◌, if◌then◌else◌}
+use Rattle.std.specs.List.{AllByRecursion}
 use Rattle.home_image.specs.Settled.{BookStands}
 use Rattle.home_image.proofs.BookLemmas.{stands-turn}
 use Rattle.pw_types.specs.declared.era.Era.{Era}
 use Rattle.share_api.specs.Places.{place_after}
 use Rattle.share_api.specs.declared.step.Step.{Step}
 use Rattle.share_api.proofs.RunLaws.{place_turn}
-use Rattle.turn_lock.specs.Seats.{SeatView, seat_after}
+use Rattle.turn_lock.specs.Lists.{entries_from}
+use Rattle.turn_lock.specs.Seats.{SeatView, Recalls, seat_after}
 use Rattle.platform_lock.specs.Devices.{DeviceSeen}
 use Rattle.platform_lock.specs.Seats.{AccountView, ShareView, new_share, seen_of, own_at, IsSameShare}
-use Rattle.home_locks.specs.Meanings.{Rules, meaning_of}
+use Rattle.home_locks.specs.Meanings.{Rules, client_of, meaning_of}
 use Rattle.home_locks.specs.Turns.{ActStands, made_of}
-use Rattle.home_locks.specs.Accounts.{AccountStands, AddsTurn}
+use Rattle.home_locks.specs.Accounts.{AccountStands, AddsTurn, StandsAt}
 use Rattle.home_locks.specs.declared.account.Entry.{Entry}
 
 abbrev value_or : {A : Type 0} → A → Option A → A
@@ -72,11 +76,54 @@ account_turn rules_at era device first old new start before after own own_new sh
     }
 
 -- a seat after a turn has its entry behind the others
-pub adds_turn : {T : Type 0} (old held new : SeatView (Entry T)) (before : List (Entry T)) (entry : Entry T) (told : ℕ)
+pub adds_turn : {T A : Type 0} (tells : T → T → A → Type 0) (old held new : SeatView (Entry T)) (before : List (Entry T))
+    (entry : Entry T) (asked : T) (told : A) (at : ℕ)
     → held ≡ old
     → entry.client ≡ old.caller
+    → tells asked entry.turn told
     → new ≡ seat_after held before entry
-    → told ≡ length before % 2 ^ 64
-    → AddsTurn old new told
-adds_turn old held new before entry told same client left at =
-    (length before, entry, client, at, left ∙ ap (λ (s : SeatView (Entry _)). seat_after s before entry) same)
+    → at ≡ length before % 2 ^ 64
+    → AddsTurn tells old new asked told at
+adds_turn tells old held new before entry asked told at same client turn left place = record {
+  place = length before;
+  entry = entry;
+  client = client;
+  turn = turn;
+  place_is = place;
+  own = left ∙ ap (λ (s : SeatView (Entry _)). seat_after s before entry) same;
+}
+
+-- each entry of a caller in the list stands at its place, behind those in front
+entries_stand : {E : Type 0} (caller_of : E → ℕ) (caller : ℕ) (front es : List E)
+    → AllByRecursion (λ known. StandsAt (front ++ es) known.0 known.1) (entries_from caller_of (length front) caller es)
+entries_stand caller_of caller front [] = tt
+entries_stand {E} caller_of caller front (e ∷ es) =
+    with_first (caller_of e == caller) (others (entries_stand caller_of caller (front ++ e ∷ []) es))
+  where
+    behind : length (front ++ e ∷ []) ≡ length front + 1
+    behind = length-append front (e ∷ [])
+
+    -- those of the rest stand behind the first
+    others : AllByRecursion (λ known. StandsAt ((front ++ e ∷ []) ++ es) known.0 known.1)
+        (entries_from caller_of (length (front ++ e ∷ [])) caller es)
+        → AllByRecursion (λ known. StandsAt (front ++ e ∷ es) known.0 known.1)
+        (entries_from caller_of (length front + 1) caller es)
+    others rest = subst
+        (λ (n : ℕ). AllByRecursion (λ known. StandsAt (front ++ e ∷ es) known.0 known.1) (entries_from caller_of n caller es))
+        behind
+        (subst (λ (book : List E). AllByRecursion (λ known. StandsAt book known.0 known.1)
+        (entries_from caller_of (length (front ++ e ∷ [])) caller es)) (append_assoc front (e ∷ []) es) rest)
+
+    with_first : (b : Bool)
+        → AllByRecursion (λ known. StandsAt (front ++ e ∷ es) known.0 known.1)
+        (entries_from caller_of (length front + 1) caller es)
+        → AllByRecursion (λ known. StandsAt (front ++ e ∷ es) known.0 known.1)
+        ((if b then (length front, e) ∷ [] else []) ++ entries_from caller_of (length front + 1) caller es)
+    with_first true rest = (record { before = front; after = es; book_is = refl; place_is = refl }, rest)
+    with_first false rest = rest
+
+-- what a seat knows of its turns is in the book
+pub own_stands : {T : Type 0} (book : List (Entry T)) (seat : SeatView (Entry T))
+    → Recalls client_of book seat → AllByRecursion (λ known. StandsAt book known.0 known.1) seat.own
+own_stands book seat recalls = subst (AllByRecursion (λ known. StandsAt book known.0 known.1)) recalls.own
+    (entries_stand client_of seat.caller [] book)

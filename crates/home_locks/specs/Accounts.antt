@@ -1,5 +1,5 @@
 -- What the value behind an account's lock is to its book.
-use Rattle.std.specs.Prelude.{◌≡◌, ℕ, ◌%◌, ◌^◌, List, [], ◌∷◌, ◌++◌, Option, Some, IsSomeAnd}
+use Rattle.std.specs.Prelude.{◌≡◌, ℕ, ◌%◌, ◌^◌, List, [], ◌∷◌, ◌++◌, length, Option, Some, IsSomeAnd}
 use Rattle.home_image.specs.Settled.{BookStands}
 use Rattle.turn_lock.specs.Seats.{SeatView, LockId}
 use Rattle.platform_lock.specs.Devices.{DeviceSeen, HasAccount}
@@ -24,9 +24,20 @@ module _ {C D U T X : Type 0} (rules : Rules C D U T X) where
 abbrev pub IsPlaced : DeviceSeen → LockId → Option AccountView → Type 0
 IsPlaced device lock first = IsSomeAnd first (λ start. (start.seat.lock ≡ lock) × HasAccount device start.seat.caller)
 
--- the client's seat has one entry more, at some place that is this one modulo 2^64
-abbrev pub AddsTurn : {T : Type 0} → SeatView (Entry T) → SeatView (Entry T) → ℕ → Type 0
-AddsTurn old new reduced = (place : ℕ) × (entry : Entry _)
-    × (entry.client ≡ old.caller)
-    × (reduced ≡ place % 2 ^ 64)
-    × (new ≡ record old { own = old.own ++ (place, entry) ∷ [] })
+-- The client's seat has one entry more: the turn that was asked, of which this was told. Its place in the book is the
+-- receipt's modulo 2^64.
+pub record AddsTurn {T A : Type 0} (tells : T → T → A → Type 0) (old new : SeatView (Entry T)) (asked : T) (told : A)
+    (reduced : ℕ) : Type 0 where
+  pub place : ℕ
+  pub entry : Entry T
+  pub client : entry.client ≡ old.caller
+  pub turn : tells asked entry.turn told
+  pub place_is : reduced ≡ place % 2 ^ 64
+  pub own : new ≡ record old { own = old.own ++ (place, entry) ∷ [] }
+
+-- the book has this entry at this place
+pub record StandsAt {E : Type 0} (book : List E) (place : ℕ) (entry : E) : Type 0 where
+  pub before : List E
+  pub after : List E
+  pub book_is : book ≡ before ++ entry ∷ after
+  pub place_is : place ≡ length before

@@ -84,9 +84,9 @@ pub fn settle<K: AccountTurns>(
     requires empty { room.items ≡ [] }
     ensures settled { (chain : List Step)
         × IsServed K.Platform.seen K.Platform.stands shared.first.device result.device chain
-        × Settles (K.rules (K.Platform.seen shared.first.device).era)
+        × (K.opened shared.first.device → Settles (K.rules (K.Platform.seen shared.first.device).era)
         (map (λ part. part.lock.first.state) parts.items) (K.contents shared.first.device)
-        (K.contents result.device) (K.images result.device) chain result.books.items }
+        (K.contents result.device) (K.images shared.first.device result.device) chain result.books.items) }
     // What the joined seats know of each client's turns are that client's entries, at their places.
     ensures own { AreRecalled (map (λ part. part.seat) parts.items) result.books.items }
 {

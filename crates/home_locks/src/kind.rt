@@ -29,36 +29,48 @@ pub trait AccountTurns {
     /// What a turn asks, and then also its answer.
     type Turn: Drop;
 
+    /// What is told of a turn to the client that asked it.
+    type Told: Drop;
+
     /// The state of an account in memory.
     type State: Drop;
 
     /// What steps, turns and states mean in an era.
     ghost rules: { Era → Rules Self.Contents Self.Durable Self.User Self.Turn Self.State };
 
+    /// A turn that asks this became that once it was done, and this was told of it.
+    ghost tells: { Self.Turn → Self.Turn → Self.Told → Type 0 };
+
     /// What a platform has of each account.
     ghost contents: { Self.Platform → ByAccount Self.Contents };
 
-    /// What the images have of each account that a crash since the opening may leave.
-    ghost images: { Self.Platform → ByAccount Self.Contents → Type 0 };
+    /// What has to be so of the platform that a run begins with, so that images have what it has: as that its board
+    /// tells its content.
+    ghost opened: { Self.Platform → Type 0 };
+
+    /// What the images have of each account that a crash since the first platform may leave of the second.
+    ghost images: { Self.Platform → Self.Platform → ByAccount Self.Contents → Type 0 };
 
     /// A turn that asks nothing yet.
     fn blank() -> Self::Turn;
 
-    /// Takes one turn, and gives what was asked with the answer.
+    /// Takes one turn, and gives what was asked with the answer, and what is told of it.
     fn act<S: Share>(
         alloc: Global,
         share: &mut S,
         state: &mut Self::State,
         turn: Self::Turn,
-    ) -> Self::Turn
+    ) -> (Self::Turn, Self::Told)
         ensures goes { S.goes share.old share.new }
-        ensures stands { ActStands (rules (S.seen share.old).era) state.old state.new result (S.seen share.old)
-            (S.seen share.new) };
+        ensures stands { ActStands (rules (S.seen share.old).era) state.old state.new result.0 (S.seen share.old)
+            (S.seen share.new) }
+        ensures tells { tells turn result.0 result.1 };
 
     /// Each image has of all accounts what their steps among the first so many lead to, and the platform has what
     /// all of them lead to.
     ghost recovers: { (first now : Self.Platform) (chain : List Step)
+        → opened first
         → Self.Platform.stands first now chain
-        → Recovers (meaning_of (rules (Self.Platform.seen first).era)) (contents first) (contents now) (images now)
-        chain };
+        → Recovers (meaning_of (rules (Self.Platform.seen first).era)) (contents first) (contents now)
+        (images first now) chain };
 }

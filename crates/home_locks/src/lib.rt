@@ -5,9 +5,11 @@
 mod account;
 mod ending;
 mod kind;
+mod laws;
 mod turns;
 
 pub use account::{Account, Entry};
 pub use ending::{Books, Part, settle};
 pub use kind::AccountTurns;
-pub use turns::call;
+pub use laws::known_turns_are_in_the_book;
+pub use turns::{Taken, blank_entry, call, take_turn};

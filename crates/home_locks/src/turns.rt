@@ -1,17 +1,73 @@
 //! A turn of a client behind an account's lock.
 
-ghost use Rattle.std.specs.Prelude.{◌≡◌, IfSome, IfNone};
+ghost use Rattle.std.specs.Prelude.{◌≡◌, IfOk, IfSome, IfNone};
 ghost use Rattle.home_locks.specs.Accounts.{IsPlaced, AddsTurn};
 
 use crate::account::{Account, Entry};
 use crate::kind::AccountTurns;
+use ct_bytes::NoMemory;
 use platform_lock::{AccountShare, Shared};
 use share_api::Share;
 use std::alloc::Global;
 use std::sync::Wait;
 use turn_lock::{Link, Receipt, Seat, Turnstile};
 
-/// One turn of the client whose seat it is. Without memory for its entry there is none, and no receipt.
+/// A turn that was taken: where its entry stands in the account's book, and what is told of it.
+#[derive(Drop)]
+pub struct Taken<T> {
+    pub receipt: Receipt,
+    pub told: T,
+}
+
+/// The memory for the entry of one turn of a client.
+pub fn blank_entry<K: AccountTurns>(
+    alloc: Global,
+    client: u32,
+) -> Result<Link<Entry<K::Turn>>, NoMemory>
+    ensures client { IfOk result (λ link. link.client ≡ client) }
+{
+    let turn = K::blank();
+    let entry = Entry {
+        client,
+        turn,
+        place: 0,
+    };
+    Link::new(alloc, entry)
+}
+
+/// One turn of the client whose seat it is, with the memory for its entry.
+pub fn take_turn<R: Wait, K: AccountTurns>(
+    rt: &R,
+    alloc: Global,
+    shared: &Shared<K::Platform>,
+    lock: &Turnstile<Account<K>>,
+    seat: Seat<Account<K>>,
+    link: Link<Entry<K::Turn>>,
+    turn: K::Turn,
+) -> (Seat<Account<K>>, Taken<K::Told>)
+    requires of { seat.lock ≡ lock.now.id }
+    requires client { link.client ≡ seat.caller }
+    requires shared { IsPlaced (K.Platform.seen shared.now.first.device) shared.now.id lock.now.first.seat }
+    requires era { lock.now.first.era ≡ (K.Platform.seen shared.now.first.device).era }
+    ensures lock { result.0.lock ≡ seat.lock }
+    // The entry at the receipt's place is the turn that was asked, and what is told is told of this entry.
+    ensures turn { AddsTurn K.tells seat result.0 turn result.1.told result.1.receipt.place }
+{
+    let mut held = lock.enter(rt, seat, link);
+    let account = held.value();
+    let own = account.seat.take().unwrap();
+    let mut share = AccountShare::new(rt, alloc, shared, own);
+    let (done, told) = K::act(alloc, &mut share, &mut account.state, turn);
+    let place = share.place();
+    account.seat = Some(share.into_seat());
+    let entry = held.entry();
+    entry.turn = done;
+    entry.place = place;
+    let (seat, receipt) = lock.leave(held);
+    (seat, Taken { receipt, told })
+}
+
+/// One turn of the client whose seat it is. Without memory for its entry there is none.
 pub fn call<R: Wait, K: AccountTurns>(
     rt: &R,
     alloc: Global,
@@ -19,33 +75,17 @@ pub fn call<R: Wait, K: AccountTurns>(
     lock: &Turnstile<Account<K>>,
     seat: Seat<Account<K>>,
     turn: K::Turn,
-) -> (Seat<Account<K>>, Option<Receipt>)
+) -> (Seat<Account<K>>, Option<Taken<K::Told>>)
     requires of { seat.lock ≡ lock.now.id }
     requires shared { IsPlaced (K.Platform.seen shared.now.first.device) shared.now.id lock.now.first.seat }
     requires era { lock.now.first.era ≡ (K.Platform.seen shared.now.first.device).era }
     ensures lock { result.0.lock ≡ seat.lock }
     ensures none { IfNone result.1 (result.0 ≡ seat) }
-    ensures turn { IfSome result.1 (λ receipt. AddsTurn seat result.0 receipt.place) }
+    ensures turn { IfSome result.1 (λ taken. AddsTurn K.tells seat result.0 turn taken.told taken.receipt.place) }
 {
-    let client = seat.caller();
-    let entry = Entry {
-        client,
-        turn: K::blank(),
-        place: 0,
-    };
-    let Ok(link) = Link::new(alloc, entry) else {
+    let Ok(link) = blank_entry::<K>(alloc, seat.caller()) else {
         return (seat, None);
     };
-    let mut held = lock.enter(rt, seat, link);
-    let account = held.value();
-    let own = account.seat.take().unwrap();
-    let mut share = AccountShare::new(rt, alloc, shared, own);
-    let done = K::act(alloc, &mut share, &mut account.state, turn);
-    let place = share.place();
-    account.seat = Some(share.into_seat());
-    let entry = held.entry();
-    entry.turn = done;
-    entry.place = place;
-    let (seat, receipt) = lock.leave(held);
-    (seat, Some(receipt))
+    let (seat, taken) = take_turn(rt, alloc, shared, lock, seat, link, turn);
+    (seat, Some(taken))
 }

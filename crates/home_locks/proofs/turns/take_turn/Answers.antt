@@ -2,7 +2,7 @@
 use Rattle.std.proofs.Common.{◌≡◌, rules, refl, sym, ◌∙◌, subst}
 use Rattle.home_locks.specs.Accounts.{AccountStands}
 use Rattle.home_locks.proofs.AccountLemmas.{account_turn, adds_turn}
-use Rattle.home_locks.proofs.turns.call.Goals as goal
+use Rattle.home_locks.proofs.turns.take_turn.Goals as goal
 
 pub leave-seat-requires-clause-stands : goal.leave-seat-requires-clause-stands
 leave-seat-requires-clause-stands g c =
@@ -20,4 +20,5 @@ leave-seat-requires-clause-stands g c =
 pub returns-clause-turn : goal.returns-clause-turn
 returns-clause-turn g c =
     let client : c.entry-entry.result.now.client ≡ c.args.seat.caller = search rules in
-    adds_turn _ _ _ _ _ _ c.enter-held.ensures.seat client c.leave-seat.ensures.seat c.leave-seat.ensures.place
+    adds_turn g.K.AccountTurns.tells _ _ _ _ _ _ _ _ c.enter-held.ensures.seat client c.act-done.ensures.tells
+    c.leave-seat.ensures.seat c.leave-seat.ensures.place

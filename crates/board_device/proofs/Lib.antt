@@ -1,0 +1,5 @@
+mod IdleLemmas
+mod AnswerLemmas
+mod NameLemmas
+mod MadeLemmas
+pub mod LedLemmas

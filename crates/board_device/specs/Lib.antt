@@ -1,0 +1,5 @@
+pub mod Device
+pub mod Idle
+pub mod Standing
+pub mod Begins
+pub mod Coding
