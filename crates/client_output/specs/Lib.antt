@@ -1,0 +1,5 @@
+pub mod Turns
+pub mod Output
+pub mod Grown
+pub mod Books
+pub mod Seats
