@@ -22,6 +22,19 @@ fn records_of_both_kinds_are_read(rt: HostRuntime) {
 }
 
 #[test]
+fn what_is_read_is_written_again(rt: HostRuntime) {
+    for bytes in [PASSWORD.as_slice(), PIN.as_slice()] {
+        let Ok(factor) = FactorRecord::read(rt.alloc(), bytes) else {
+            panic!(rt; "it is a record");
+        };
+        let Ok(written) = factor.write(rt.alloc()) else {
+            panic!(rt; "no memory for a record");
+        };
+        assert_eq!(rt; written.as_slice(), bytes);
+    }
+}
+
+#[test]
 fn a_record_that_is_cut_is_none(rt: HostRuntime) {
     for size in 0..PIN.len() {
         assert!(rt;

@@ -2,7 +2,9 @@
 
 use crate::made::{EMPTY_FILE, FILE, VAULT};
 use home_names::is_account_name;
-use vault_crypt::{VaultFault, open_file};
+use std::alloc::Global;
+use std::test;
+use vault_crypt::{VaultFault, open_file, seal_file};
 
 #[test]
 fn files_open_under_their_name_alone(rt: HostRuntime) {
@@ -59,4 +61,40 @@ fn a_file_that_is_cut_is_named_by_the_field(rt: HostRuntime) {
             Err(fault) => assert_eq!(rt; fault, VaultFault::BadFile(place), "at {size} bytes"),
         }
     }
+}
+
+// A file of so many bytes has a record of so many, which opens to it.
+fn check_size(alloc: Global, size: usize, total: usize) -> Result<(), test::Fail> {
+    let (account, name) = ("ann", "x");
+    let bytes = vec![in alloc; 7u8; size]?;
+    if !is_account_name(account) || name.is_empty() || name.len() > 64 || bytes.len() > 49_152 {
+        return Err(test::Fail::new("the names and the size are allowed"));
+    }
+    let record = seal_file(alloc, &VAULT, account, name, [9; 12], &bytes)?;
+    let opened = open_file(alloc, &VAULT, account, name, record.as_slice())?;
+    if record.as_slice().len() != total || opened.as_slice() != bytes.as_slice() {
+        return Err(test::Fail::new(format_args!("{size} bytes")));
+    }
+    Ok(())
+}
+
+#[test]
+fn the_empty_and_the_largest_file_have_29_and_49_181_bytes(
+    rt: HostRuntime,
+) -> Result<(), test::Fail> {
+    check_size(rt.alloc(), 0, 29)?;
+    check_size(rt.alloc(), 49_152, 49_181)
+}
+
+#[test]
+fn a_record_of_one_byte_more_is_none(rt: HostRuntime) -> Result<(), test::Fail> {
+    let (account, name) = ("ann", "x");
+    assert!(rt; is_account_name(account));
+    assert!(rt; !name.is_empty() && name.len() <= 64);
+    let record = vec![in rt.alloc(); 1u8; 49_182]?;
+    match open_file(rt.alloc(), &VAULT, account, name, &record) {
+        Ok(_) => return Err(test::Fail::new("it is no record")),
+        Err(fault) => assert_eq!(rt; fault, VaultFault::BadFile(49_181)),
+    }
+    Ok(())
 }
