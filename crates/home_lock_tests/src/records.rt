@@ -14,6 +14,7 @@ pub struct RecordTurns<B> {
 impl<B: Board + Drop> AccountTurns for RecordTurns<B> {
     ghost use Rattle.board_device.specs.Device.{board_of};
     ghost use Rattle.board_device.specs.Standing.{IsOpened, contents_of, images_since};
+    ghost use Rattle.home_lock_tests.specs.Looks.{TellsNumber};
     ghost use Rattle.home_lock_tests.specs.Records.{record_rules, records_recover};
 
     type Platform = BoardDevice<B>;
@@ -26,9 +27,13 @@ impl<B: Board + Drop> AccountTurns for RecordTurns<B> {
 
     type Turn = u64;
 
+    type Told = u64;
+
     type State = u8;
 
     ghost rules = { record_rules };
+
+    ghost tells = { TellsNumber };
 
     ghost contents = { contents_of B.disk };
 
@@ -43,9 +48,9 @@ impl<B: Board + Drop> AccountTurns for RecordTurns<B> {
         0
     }
 
-    fn act<S: Share>(alloc: Global, share: &mut S, state: &mut u8, turn: u64) -> u64 {
+    fn act<S: Share>(alloc: Global, share: &mut S, state: &mut u8, turn: u64) -> (u64, u64) {
         let _ = (alloc, share.spare());
         let _ = state;
-        turn
+        (turn, turn)
     }
 }
