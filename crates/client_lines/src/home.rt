@@ -5,6 +5,7 @@ ghost use Rattle.turn_lock.specs.Seats.{LockId};
 ghost use Rattle.client_output.specs.Grown.{SeatSeen, Calls};
 ghost use Rattle.client_output.specs.Output.{NamesPlainly};
 ghost use Rattle.client_output.specs.Seats.{BareSeat};
+ghost use Rattle.request_forms.specs.Formed.{IsFormedRequest};
 ghost use Rattle.client_lines.specs.Seats.{AreSeatsOf};
 
 use account_machine::{Answer, Request};
@@ -45,6 +46,7 @@ pub trait Home {
         moment: u64,
     ) -> (Self::Seat, Answer)
         requires of { AreSeatsOf (locks self.now) (seen self.now seat).caller (bare seat) }
+        requires formed { IsFormedRequest request.now }
         ensures bare { bare result.0 ≡ bare seat }
         ensures calls { Calls (seen self.now seat) (seen self.now result.0) request.now moment result.1 }
         ensures named { NamesPlainly result.1 };

@@ -1,8 +1,9 @@
 //! A client's lines, answered by its seat of a home.
 
-ghost use Rattle.std.specs.Prelude.{◌≡◌, ◌≢◌, Some, Err};
+ghost use Rattle.std.specs.Prelude.{◌≡◌, ◌≢◌, Some, Err, IfOk};
 ghost use Rattle.request_loop.specs.Lines.{line_seen};
 ghost use Rattle.client_output.specs.Output.{asked_by};
+ghost use Rattle.request_forms.specs.Formed.{IsFormedRequest};
 ghost use Rattle.client_lines.specs.Seats.{IsSeated, AreSeatsOf};
 
 use crate::Home;
@@ -52,6 +53,7 @@ impl<'a, R: Wait, H: Home> LineClient<'a, R, H> {
 // The request of a line, or why it has none.
 fn asked(alloc: Global, pins: bool, line: Line<'_>) -> Result<Request, LineFault>
     ensures exact { result ≢ Err LineFault.NoMemory → result ≡ asked_by pins (line_seen line.entry) }
+    ensures formed { IfOk result IsFormedRequest }
 {
     let Line::Whole(bytes) = line else {
         return Err(LineFault::TooLong);

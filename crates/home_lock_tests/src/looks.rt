@@ -20,6 +20,8 @@ impl AccountTurns for LookTurns {
 
     type User = u8;
 
+    type Asked = u64;
+
     type Turn = u64;
 
     type Told = u64;
@@ -29,6 +31,8 @@ impl AccountTurns for LookTurns {
     ghost rules = { λ era. look_rules };
 
     ghost tells = { TellsNumber };
+
+    ghost ready = { λ owner lost state. Unit {0} };
 
     ghost contents = { λ device account. 0 };
 
@@ -42,12 +46,12 @@ impl AccountTurns for LookTurns {
         0
     }
 
-    fn act<S: Share>(alloc: Global, share: &mut S, state: &mut u8, turn: u64) -> (u64, u64) {
+    fn act<S: Share>(alloc: Global, share: &mut S, state: &mut u8, asked: u64) -> (u64, u64) {
         let _ = state;
         if share.stock(alloc, 1).is_err() {
-            return (turn, turn);
+            return (asked, asked);
         }
         let _ = share.leaf(Label::new(0).unwrap());
-        (turn, turn)
+        (asked, asked)
     }
 }

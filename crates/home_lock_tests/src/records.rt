@@ -25,6 +25,8 @@ impl<B: Board + Drop> AccountTurns for RecordTurns<B> {
 
     type User = u8;
 
+    type Asked = u64;
+
     type Turn = u64;
 
     type Told = u64;
@@ -34,6 +36,8 @@ impl<B: Board + Drop> AccountTurns for RecordTurns<B> {
     ghost rules = { record_rules };
 
     ghost tells = { TellsNumber };
+
+    ghost ready = { λ owner lost state. Unit {0} };
 
     ghost contents = { contents_of B.disk };
 
@@ -48,9 +52,9 @@ impl<B: Board + Drop> AccountTurns for RecordTurns<B> {
         0
     }
 
-    fn act<S: Share>(alloc: Global, share: &mut S, state: &mut u8, turn: u64) -> (u64, u64) {
+    fn act<S: Share>(alloc: Global, share: &mut S, state: &mut u8, asked: u64) -> (u64, u64) {
         let _ = (alloc, share.spare());
         let _ = state;
-        (turn, turn)
+        (asked, asked)
     }
 }

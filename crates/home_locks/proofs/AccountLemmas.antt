@@ -1,7 +1,7 @@
 -- The value behind an account's lock after a turn.
 use Rattle.std.proofs.Common.{◌≡◌, ℕ, ◌+◌, ◌%◌, ◌^◌, Bool, true, false, length, List, [], ◌∷◌, ◌++◌, Option, None, Some, refl, sym, ap, ◌∙◌, subst, append_assoc}
 use Rattle.std.proofs.lemmas.List.{length-append}
-use Rattle.std.specs.Prelude.{◌==◌, if◌then◌else◌}
+use Rattle.std.specs.Prelude.{◌==◌, if◌then◌else◌, IsSomeAnd}
 use Rattle.std.specs.List.{AllByRecursion}
 use Rattle.home_image.specs.Settled.{BookStands}
 use Rattle.home_image.proofs.BookLemmas.{stands-turn}
@@ -10,12 +10,12 @@ use Rattle.share_api.specs.Places.{place_after}
 use Rattle.share_api.specs.declared.step.Step.{Step}
 use Rattle.share_api.proofs.RunLaws.{place_turn}
 use Rattle.turn_lock.specs.Lists.{entries_from}
-use Rattle.turn_lock.specs.Seats.{SeatView, Recalls, seat_after}
-use Rattle.platform_lock.specs.Devices.{DeviceSeen}
+use Rattle.turn_lock.specs.Seats.{SeatView, LockId, Recalls, seat_after}
+use Rattle.platform_lock.specs.Devices.{DeviceSeen, HasAccount, owner_at}
 use Rattle.platform_lock.specs.Seats.{AccountView, ShareView, new_share, seen_of, own_at, IsSameShare}
 use Rattle.home_locks.specs.Meanings.{Rules, client_of, meaning_of}
 use Rattle.home_locks.specs.Turns.{ActStands, made_of}
-use Rattle.home_locks.specs.Accounts.{AccountStands, AddsTurn, StandsAt}
+use Rattle.home_locks.specs.Accounts.{AccountStands, AddsTurn, StandsAt, Readiness, StaysReady, IsPlaced}
 use Rattle.home_locks.specs.declared.account.Entry.{Entry}
 
 abbrev value_or : {A : Type 0} → A → Option A → A
@@ -26,11 +26,30 @@ value_or a (Some b) = b
 pub one_value : {A : Type 0} (a b : A) (o : Option A) → o ≡ Some a → o ≡ Some b → a ≡ b
 one_value a b o p q = ap (value_or a) (sym p ∙ q)
 
+-- A turn can begin with the state that the account has now, over the share of its seat.
+pub account_ready : {C D U T X : Type 0} (rules : Rules C D U T X) (ready : Readiness X) (device : DeviceSeen)
+    (lock : LockId) (first now : Option AccountView) (start state : X) (own : AccountView) (share : ShareView)
+    (book : List (Entry T))
+    → IsPlaced ready device lock first start
+    → AccountStands rules ready first start now state book
+    → now ≡ Some own
+    → share ≡ new_share device own
+    → ready (seen_of share).owner (seen_of share).lost state
+account_ready rules ready device lock first now start state own share book placed stands had made =
+    let of_start = subst (λ f. IsSomeAnd f (λ (o : AccountView). (o.seat.lock ≡ lock)
+    × HasAccount device o.seat.caller × ready (owner_at device o.seat.caller) device.lost start)) stands.start_is placed in
+    let caller_is : own.seat.caller ≡ stands.start.seat.caller =
+    ap (λ (o : AccountView). o.seat.caller) (one_value own stands.seat now had stands.seat_is)
+    ∙ ap (λ (s : SeatView Step). s.caller) stands.same in
+    subst (λ (s : ShareView). ready (seen_of s).owner (seen_of s).lost state) (sym made)
+    (subst (λ caller. ready (owner_at device caller) device.lost state) (sym caller_is)
+    (stands.stays_ready (owner_at device stands.start.seat.caller) device.lost of_start.2.1))
+
 -- The account stands with the turn's entry: its seat knows the turn's steps behind those that it knew.
-pub account_turn : {C D U T X : Type 0} (rules_at : Era → Rules C D U T X) (era : Era)
+pub account_turn : {C D U T X : Type 0} (rules_at : Era → Rules C D U T X) (ready : Readiness X) (era : Era)
     (device : DeviceSeen) (first old new : Option AccountView) (start before after : X) (own own_new : AccountView)
     (share share_new : ShareView) (client place : ℕ) (turn : T) (book : List (Entry T))
-    → AccountStands (rules_at era) first start old before book
+    → AccountStands (rules_at era) ready first start old before book
     → era ≡ device.era
     → old ≡ Some own
     → share ≡ new_share device own
@@ -39,10 +58,11 @@ pub account_turn : {C D U T X : Type 0} (rules_at : Era → Rules C D U T X) (er
     → new ≡ Some own_new
     → place ≡ share_new.place
     → ActStands (rules_at (seen_of share).era) before after turn (seen_of share) (seen_of share_new)
-    → AccountStands (rules_at era) first start new after
+    → StaysReady ready before after
+    → AccountStands (rules_at era) ready first start new after
     (book ++ record { client = client; turn = turn; place = place } ∷ [])
-account_turn rules_at era device first old new start before after own own_new share share_new client place turn book
-    stands era_is had made goes kept now at acted =
+account_turn rules_at ready era device first old new start before after own own_new share share_new client place turn book
+    stands era_is had made goes kept now at acted readily =
     let m = meaning_of (rules_at era) in
     let act = subst (λ e. ActStands (rules_at e) before after turn (seen_of share) (seen_of share_new))
     (ap (λ (s : ShareView). s.device.era) made ∙ sym era_is) acted in
@@ -60,24 +80,25 @@ account_turn rules_at era device first old new start before after own own_new sh
       seat = own_new;
       start_is = stands.start_is;
       seat_is = now;
-      none = stands.none;
       same = seat_is ∙ after_is.2
           ∙ ap (λ (s : SeatView Step). record s { own = after_is.0.own })
           (ap (λ (o : AccountView). o.seat) had_is ∙ stands.same)
           ∙ ap (λ (s : SeatView Step). record stands.start.seat { own = s.own }) (sym seat_is);
-      book_stands = subst (λ xs. BookStands m start after xs (book ++ entry ∷ [])) (sym own_is)
-          (stands-turn m start before after stands.seat.seat.own book (made_of client turn place act.own)
+      own = stands.own ++ act.own;
+      own_is = own_is ∙ ap (λ xs. xs ++ act.own) stands.own_is ∙ append_assoc stands.start.seat.own stands.own act.own;
+      book_stands = stands-turn m start before after stands.own book (made_of client turn place act.own)
           stands.book_stands
           (record {
             place = at ∙ act.steps.place ∙ ap (λ (s : ShareView). place_after s.place act.own) made
                 ∙ place_turn act.own;
             right = act.right client place;
-          }));
+          });
+      stays_ready = λ owner lost is. readily owner lost (stands.stays_ready owner lost is);
     }
 
 -- a seat after a turn has its entry behind the others
-pub adds_turn : {T A : Type 0} (tells : T → T → A → Type 0) (old held new : SeatView (Entry T)) (before : List (Entry T))
-    (entry : Entry T) (asked : T) (told : A) (at : ℕ)
+pub adds_turn : {Q T A : Type 0} (tells : Q → T → A → Type 0) (old held new : SeatView (Entry T))
+    (before : List (Entry T)) (entry : Entry T) (asked : Q) (told : A) (at : ℕ)
     → held ≡ old
     → entry.client ≡ old.caller
     → tells asked entry.turn told

@@ -8,7 +8,7 @@ use Rattle.share_api.specs.declared.step.Step.{Step}
 use Rattle.turn_lock.specs.Seats.{SeatView, LockId, Recalls}
 use Rattle.platform_lock.specs.Seats.{AccountView}
 use Rattle.home_locks.specs.Meanings.{Rules, client_of, meaning_of}
-use Rattle.home_locks.specs.Accounts.{AccountStands}
+use Rattle.home_locks.specs.Accounts.{AccountStands, Readiness}
 use Rattle.home_locks.specs.Closing.{IsWhole, End, Closes, KnowsEnds, JoinsOn, known_of, account_at}
 use Rattle.home_locks.specs.declared.account.Entry.{Entry}
 use Rattle.home_locks.proofs.AccountLemmas.{one_value}
@@ -40,40 +40,40 @@ module _ {T X : Type 0} where
   )
 
 -- The seat that the account has at the end is the one that it was opened with, and knows its steps.
-pub own_seat_is : {C D U T X : Type 0} (rules : Rules C D U T X) (first now : Option AccountView) (start after : X)
-    (book : List (Entry T)) (opened own : AccountView)
-    → AccountStands rules first start now after book
+pub own_seat_is : {C D U T X : Type 0} (rules : Rules C D U T X) (ready : Readiness X) (first now : Option AccountView)
+    (start after : X) (book : List (Entry T)) (opened own : AccountView)
+    → AccountStands rules ready first start now after book
     → first ≡ Some opened
     → now ≡ Some own
     → own.seat ≡ record opened.seat { own = own.seat.own }
-own_seat_is rules first now start after book opened own stands first_is now_is =
+own_seat_is rules ready first now start after book opened own stands first_is now_is =
     let seat_is : stands.seat ≡ own = one_value stands.seat own now stands.seat_is now_is in
     let start_is : stands.start ≡ opened = one_value stands.start opened first stands.start_is first_is in
     ap (λ (o : AccountView). o.seat) (sym seat_is) ∙ stands.same
     ∙ (λ i. record ((start_is i).seat) { own = (seat_is i).seat.own })
 
 -- so it is of the platform's lock
-pub own_of_shared : {C D U T X : Type 0} (rules : Rules C D U T X) (era opened : Era) (shared lock : LockId)
-    (first now : Option AccountView) (client : SeatView (Entry T)) (start after : X) (book : List (Entry T))
+pub own_of_shared : {C D U T X : Type 0} (rules : Rules C D U T X) (ready : Readiness X) (era opened : Era)
+    (shared lock : LockId) (first now : Option AccountView) (client : SeatView (Entry T)) (start after : X) (book : List (Entry T))
     (own : AccountView) (given : SeatView Step)
     → IsWhole era shared lock first opened client
-    → AccountStands rules first start now after book
+    → AccountStands rules ready first start now after book
     → now ≡ Some own
     → given ≡ own.seat
     → given.lock ≡ shared
-own_of_shared rules era opened shared lock first now client start after book own given whole stands now_is given_is =
+own_of_shared rules ready era opened shared lock first now client start after book own given whole stands now_is given_is =
     ap (λ (s : SeatView Step). s.lock)
-    (given_is ∙ own_seat_is rules first now start after book whole.start own stands whole.start_is now_is)
+    (given_is ∙ own_seat_is rules ready first now start after book whole.start own stands whole.start_is now_is)
     ∙ whole.start_of
 
 -- one account more, behind the others
-pub closes_more : {C D U T X : Type 0} (rules_at : Era → Rules C D U T X) (era opened : Era) (shared lock : LockId)
-    (accounts : List ℕ) (clients : List (SeatView (Entry T))) (starts : List X) (old mid new : List (List (Entry T)))
+pub closes_more : {C D U T X : Type 0} (rules_at : Era → Rules C D U T X) (ready : Readiness X) (era opened : Era)
+    (shared lock : LockId) (accounts : List ℕ) (clients : List (SeatView (Entry T))) (starts : List X) (old mid new : List (List (Entry T)))
     (first : Option (SeatView Step)) (first_now now : Option AccountView) (client : SeatView (Entry T)) (own : AccountView)
     (given whole : SeatView Step) (start after : X) (book : List (Entry T))
     → Closes (rules_at era) shared accounts clients starts old mid first
     → IsWhole era shared lock first_now opened client
-    → AccountStands (rules_at opened) first_now start now after book
+    → AccountStands (rules_at opened) ready first_now start now after book
     → Recalls client_of book client
     → now ≡ Some own
     → given ≡ own.seat
@@ -81,14 +81,19 @@ pub closes_more : {C D U T X : Type 0} (rules_at : Era → Rules C D U T X) (era
     → JoinsOn first given whole
     → Closes (rules_at era) shared (accounts ++ account_at first_now ∷ []) (clients ++ client ∷ [])
     (starts ++ start ∷ []) old new (Some whole)
-closes_more {C} {D} {U} {T} {X} rules_at era opened shared lock accounts clients starts old mid new first first_now now client
+closes_more {C} {D} {U} {T} {X} rules_at ready era opened shared lock accounts clients starts old mid new first first_now now client
     own given whole start after book closes is_whole stood recalls now_is given_is new_is joins =
     let rules = rules_at era in
-    let stands = subst (λ e. AccountStands (rules_at e) first_now start now after book) is_whole.era_is stood in
+    let stands = subst (λ e. AccountStands (rules_at e) ready first_now start now after book) is_whole.era_is stood in
     let end : End T X = record { seat = own.seat; client = client; start = start; after = after; book = book } in
     let seat_is : stands.seat ≡ own = one_value stands.seat own now stands.seat_is now_is in
     let own_is : own.seat ≡ record is_whole.start.seat { own = own.seat.own } =
-    own_seat_is rules first_now now start after book is_whole.start own stands is_whole.start_is now_is in
+    own_seat_is rules ready first_now now start after book is_whole.start own stands is_whole.start_is now_is in
+    let start_is : stands.start ≡ is_whole.start =
+    one_value stands.start is_whole.start first_now stands.start_is is_whole.start_is in
+    let steps_are : stands.own ≡ own.seat.own =
+    sym (ap (λ xs. xs ++ stands.own) (ap (λ (o : AccountView). o.seat.own) start_is ∙ is_whole.none))
+    ∙ sym stands.own_is ∙ ap (λ (o : AccountView). o.seat.own) seat_is in
     record {
       ends = closes.ends ++ end ∷ [];
       accounts_are =
@@ -105,8 +110,7 @@ closes_more {C} {D} {U} {T} {X} rules_at era opened shared lock accounts clients
           ∙ ap (λ bs. old ++ bs) (sym (map-append (λ (e : End T X). e.book) closes.ends (end ∷ [])));
       stand = all-both (λ e. BookStands (meaning_of rules) e.start e.after e.seat.own e.book) closes.ends (end ∷ [])
           closes.stand (
-            subst (λ (o : AccountView). BookStands (meaning_of rules) start after o.seat.own book) seat_is
-                stands.book_stands,
+            subst (λ xs. BookStands (meaning_of rules) start after xs book) steps_are stands.book_stands,
             tt,
           );
       recalled = all-both (λ e. Recalls client_of e.book e.client) closes.ends (end ∷ []) closes.recalled (recalls, tt);

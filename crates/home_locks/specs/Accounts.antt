@@ -1,33 +1,48 @@
 -- What the value behind an account's lock is to its book.
 use Rattle.std.specs.Prelude.{◌≡◌, ℕ, ◌%◌, ◌^◌, List, [], ◌∷◌, ◌++◌, length, Option, Some, IsSomeAnd}
 use Rattle.home_image.specs.Settled.{BookStands}
+use Rattle.share_api.specs.Contents.{Bytes}
+use Rattle.share_api.specs.declared.step.Step.{Step}
 use Rattle.turn_lock.specs.Seats.{SeatView, LockId}
-use Rattle.platform_lock.specs.Devices.{DeviceSeen, HasAccount}
+use Rattle.platform_lock.specs.Devices.{DeviceSeen, HasAccount, owner_at}
 use Rattle.platform_lock.specs.Seats.{AccountView}
 use Rattle.home_locks.specs.Meanings.{Rules, meaning_of}
 use Rattle.home_locks.specs.declared.account.Entry.{Entry}
 
-module _ {C D U T X : Type 0} (rules : Rules C D U T X) where
-  -- The account has the seat of the platform's lock that it had at first, which knows the steps of all turns in the
-  -- book.
+-- which states a turn can begin with over the share of an account of this name, where the tree of leaves is lost or not
+abbrev pub Readiness : Type 0 → Type 1
+Readiness X = Option Bytes → Option (Bytes × Bytes) → X → Type 0
+
+-- a turn can begin with the second state wherever one can with the first
+abbrev pub StaysReady : {X : Type 0} → Readiness X → X → X → Type 0
+StaysReady ready before after = (owner : Option Bytes) (lost : Option (Bytes × Bytes))
+    → ready owner lost before → ready owner lost after
+
+module _ {C D U T X : Type 0} (rules : Rules C D U T X) (ready : Readiness X) where
+  -- The account has the seat of the platform's lock that it had at first, which knows behind the steps that it knew
+  -- then those of all turns in the book.
   pub record AccountStands (first_seat : Option AccountView) (before : X) (seat_now : Option AccountView) (after : X)
       (book : List (Entry T)) : Type 0 where
     pub start : AccountView
     pub seat : AccountView
     pub start_is : first_seat ≡ Some start
     pub seat_is : seat_now ≡ Some seat
-    pub none : start.seat.own ≡ []
     pub same : seat.seat ≡ record start.seat { own = seat.seat.own }
-    pub book_stands : BookStands (meaning_of rules) before after seat.seat.own book
+    pub own : List (ℕ × Step)
+    pub own_is : seat.seat.own ≡ start.seat.own ++ own
+    pub book_stands : BookStands (meaning_of rules) before after own book
+    pub stays_ready : StaysReady ready before after
 
--- the account was given a seat of this lock, whose number is an account's of the platform
-abbrev pub IsPlaced : DeviceSeen → LockId → Option AccountView → Type 0
-IsPlaced device lock first = IsSomeAnd first (λ start. (start.seat.lock ≡ lock) × HasAccount device start.seat.caller)
+-- The account was given a seat of this lock, whose number is an account's of the platform, and a state with which a
+-- turn of this account can begin.
+abbrev pub IsPlaced : {X : Type 0} → Readiness X → DeviceSeen → LockId → Option AccountView → X → Type 0
+IsPlaced ready device lock first state = IsSomeAnd first (λ start. (start.seat.lock ≡ lock)
+    × HasAccount device start.seat.caller × ready (owner_at device start.seat.caller) device.lost state)
 
 -- The client's seat has one entry more: the turn that was asked, of which this was told. Its place in the book is the
 -- receipt's modulo 2^64.
-pub record AddsTurn {T A : Type 0} (tells : T → T → A → Type 0) (old new : SeatView (Entry T)) (asked : T) (told : A)
-    (reduced : ℕ) : Type 0 where
+pub record AddsTurn {Q T A : Type 0} (tells : Q → T → A → Type 0) (old new : SeatView (Entry T)) (asked : Q)
+    (told : A) (reduced : ℕ) : Type 0 where
   pub place : ℕ
   pub entry : Entry T
   pub client : entry.client ≡ old.caller

@@ -10,7 +10,7 @@ use Rattle.home_locks.specs.Meanings.{Rules, client_of, meaning_of}
 use Rattle.home_locks.specs.declared.account.Entry.{Entry}
 
 -- An account's lock with a seat that has all its numbers. The account was opened in this era, with a seat of the
--- platform's lock, which is `shared`, that has no other account's number.
+-- platform's lock, which is `shared`, that knows no steps and has no other account's number.
 pub record IsWhole {T : Type 0} (era : Era) (shared lock : LockId) (first : Option AccountView) (opened : Era)
     (seat : SeatView (Entry T)) : Type 0 where
   pub of : seat.lock ≡ lock
@@ -19,6 +19,7 @@ pub record IsWhole {T : Type 0} (era : Era) (shared lock : LockId) (first : Opti
   pub start : AccountView
   pub start_is : first ≡ Some start
   pub start_of : start.seat.lock ≡ shared
+  pub none : start.seat.own ≡ []
   pub joined : start.seat.joined ≡ []
   pub spare : start.seat.spare ≡ []
 

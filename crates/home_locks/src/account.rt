@@ -10,7 +10,7 @@ use turn_lock::Tale;
 pub struct Entry<T> {
     /// The client's number from 0.
     pub client: u32,
-    /// What is asked, and then also the answer.
+    /// What was asked, with the answer.
     pub turn: T,
     /// The number of the platform's steps up to and with the turn's last one, and 0 where it made none.
     pub place: u64,
@@ -35,5 +35,5 @@ impl<K: AccountTurns> Tale for Account<K> {
     ghost caller = { client_of };
 
     ghost stands = { λ first now book.
-        AccountStands (K.rules first.era) first.seat first.state now.seat now.state book };
+        AccountStands (K.rules first.era) K.ready first.seat first.state now.seat now.state book };
 }

@@ -5,6 +5,7 @@ ghost use Rattle.pw_types.specs.declared.era.Era.{Era};
 ghost use Rattle.image_path.specs.Paths.{Recovers};
 ghost use Rattle.image_path.specs.Showing.{ByAccount};
 ghost use Rattle.share_api.specs.declared.step.Step.{Step};
+ghost use Rattle.home_locks.specs.Accounts.{Readiness, StaysReady};
 ghost use Rattle.home_locks.specs.Meanings.{Rules, meaning_of};
 ghost use Rattle.home_locks.specs.Turns.{ActStands};
 
@@ -26,7 +27,10 @@ pub trait AccountTurns {
     /// A user of the machine.
     type User;
 
-    /// What a turn asks, and then also its answer.
+    /// What a client asks, with what it brings along.
+    type Asked: Drop;
+
+    /// A turn as the book keeps it: what was asked, with the answer.
     type Turn: Drop;
 
     /// What is told of a turn to the client that asked it.
@@ -38,8 +42,12 @@ pub trait AccountTurns {
     /// What steps, turns and states mean in an era.
     ghost rules: { Era → Rules Self.Contents Self.Durable Self.User Self.Turn Self.State };
 
-    /// A turn that asks this became that once it was done, and this was told of it.
-    ghost tells: { Self.Turn → Self.Turn → Self.Told → Type 0 };
+    /// What was asked became this turn once it was done, and this was told of it.
+    ghost tells: { Self.Asked → Self.Turn → Self.Told → Type 0 };
+
+    /// Which states a turn can begin with over the share of an account of this name, where the tree of leaves is lost
+    /// or not.
+    ghost ready: { Readiness Self.State };
 
     /// What a platform has of each account.
     ghost contents: { Self.Platform → ByAccount Self.Contents };
@@ -51,20 +59,22 @@ pub trait AccountTurns {
     /// What the images have of each account that a crash since the first platform may leave of the second.
     ghost images: { Self.Platform → Self.Platform → ByAccount Self.Contents → Type 0 };
 
-    /// A turn that asks nothing yet.
+    /// A turn that says nothing yet.
     fn blank() -> Self::Turn;
 
-    /// Takes one turn, and gives what was asked with the answer, and what is told of it.
+    /// Takes one turn, and gives what the book keeps of it, and what is told of it.
     fn act<S: Share>(
         alloc: Global,
         share: &mut S,
         state: &mut Self::State,
-        turn: Self::Turn,
+        asked: Self::Asked,
     ) -> (Self::Turn, Self::Told)
+        requires ready { ready (S.seen share.old).owner (S.seen share.old).lost state.old }
         ensures goes { S.goes share.old share.new }
         ensures stands { ActStands (rules (S.seen share.old).era) state.old state.new result.0 (S.seen share.old)
             (S.seen share.new) }
-        ensures tells { tells turn result.0 result.1 };
+        ensures stays_ready { StaysReady ready state.old state.new }
+        ensures tells { tells asked result.0 result.1 };
 
     /// Each image has of all accounts what their steps among the first so many lead to, and the platform has what
     /// all of them lead to.

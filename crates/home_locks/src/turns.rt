@@ -1,6 +1,6 @@
 //! A turn of a client behind an account's lock.
 
-ghost use Rattle.std.specs.Prelude.{◌≡◌, IfOk, IfSome, IfNone};
+ghost use Rattle.std.specs.Prelude.{◌≡◌, IfSome, IfNone};
 ghost use Rattle.home_locks.specs.Accounts.{IsPlaced, AddsTurn};
 
 use crate::account::{Account, Entry};
@@ -19,16 +19,11 @@ pub struct Taken<T> {
     pub told: T,
 }
 
-/// The memory for the entry of one turn of a client.
-pub fn blank_entry<K: AccountTurns>(
-    alloc: Global,
-    client: u32,
-) -> Result<Link<Entry<K::Turn>>, NoMemory>
-    ensures client { IfOk result (λ link. link.client ≡ client) }
-{
+/// The memory for the entry of one turn.
+pub fn blank_entry<K: AccountTurns>(alloc: Global) -> Result<Link<Entry<K::Turn>>, NoMemory> {
     let turn = K::blank();
     let entry = Entry {
-        client,
+        client: 0,
         turn,
         place: 0,
     };
@@ -43,24 +38,26 @@ pub fn take_turn<R: Wait, K: AccountTurns>(
     lock: &Turnstile<Account<K>>,
     seat: Seat<Account<K>>,
     link: Link<Entry<K::Turn>>,
-    turn: K::Turn,
+    asked: K::Asked,
 ) -> (Seat<Account<K>>, Taken<K::Told>)
     requires of { seat.lock ≡ lock.now.id }
-    requires client { link.client ≡ seat.caller }
-    requires shared { IsPlaced (K.Platform.seen shared.now.first.device) shared.now.id lock.now.first.seat }
+    requires shared { IsPlaced K.ready (K.Platform.seen shared.now.first.device) shared.now.id lock.now.first.seat
+        lock.now.first.state }
     requires era { lock.now.first.era ≡ (K.Platform.seen shared.now.first.device).era }
     ensures lock { result.0.lock ≡ seat.lock }
     // The entry at the receipt's place is the turn that was asked, and what is told is told of this entry.
-    ensures turn { AddsTurn K.tells seat result.0 turn result.1.told result.1.receipt.place }
+    ensures turn { AddsTurn K.tells seat result.0 asked result.1.told result.1.receipt.place }
 {
+    let client = seat.caller();
     let mut held = lock.enter(rt, seat, link);
     let account = held.value();
     let own = account.seat.take().unwrap();
     let mut share = AccountShare::new(rt, alloc, shared, own);
-    let (done, told) = K::act(alloc, &mut share, &mut account.state, turn);
+    let (done, told) = K::act(alloc, &mut share, &mut account.state, asked);
     let place = share.place();
     account.seat = Some(share.into_seat());
     let entry = held.entry();
+    entry.client = client;
     entry.turn = done;
     entry.place = place;
     let (seat, receipt) = lock.leave(held);
@@ -74,18 +71,19 @@ pub fn call<R: Wait, K: AccountTurns>(
     shared: &Shared<K::Platform>,
     lock: &Turnstile<Account<K>>,
     seat: Seat<Account<K>>,
-    turn: K::Turn,
+    asked: K::Asked,
 ) -> (Seat<Account<K>>, Option<Taken<K::Told>>)
     requires of { seat.lock ≡ lock.now.id }
-    requires shared { IsPlaced (K.Platform.seen shared.now.first.device) shared.now.id lock.now.first.seat }
+    requires shared { IsPlaced K.ready (K.Platform.seen shared.now.first.device) shared.now.id lock.now.first.seat
+        lock.now.first.state }
     requires era { lock.now.first.era ≡ (K.Platform.seen shared.now.first.device).era }
     ensures lock { result.0.lock ≡ seat.lock }
     ensures none { IfNone result.1 (result.0 ≡ seat) }
-    ensures turn { IfSome result.1 (λ taken. AddsTurn K.tells seat result.0 turn taken.told taken.receipt.place) }
+    ensures turn { IfSome result.1 (λ taken. AddsTurn K.tells seat result.0 asked taken.told taken.receipt.place) }
 {
-    let Ok(link) = blank_entry::<K>(alloc, seat.caller()) else {
+    let Ok(link) = blank_entry::<K>(alloc) else {
         return (seat, None);
     };
-    let (seat, taken) = take_turn(rt, alloc, shared, lock, seat, link, turn);
+    let (seat, taken) = take_turn(rt, alloc, shared, lock, seat, link, asked);
     (seat, Some(taken))
 }

@@ -5,6 +5,7 @@ ghost use Rattle.std.specs.List.{AllByRecursion};
 ghost use Rattle.account_machine.specs.Asked.{account_of};
 ghost use Rattle.client_output.specs.Grown.{Calls, MakesTurns};
 ghost use Rattle.client_output.specs.Output.{NamesPlainly, is_among};
+ghost use Rattle.request_forms.specs.Formed.{IsFormedRequest};
 ghost use Rattle.request_turns.specs.Named.{are_apart, seats_seen};
 
 use crate::{TurnSeat, take_turns};
@@ -24,6 +25,7 @@ fn take_turns_among<R: Wait, S: TurnSeat>(
 ) -> Option<Answer>
     requires many { length seats.old ≡ length names.now }
     requires apart { are_apart names.now ≡ true }
+    requires formed { IsFormedRequest request.now }
     ensures bare { map S.bare seats.new ≡ map S.bare seats.old }
     ensures none { IfNone result (seats.new ≡ seats.old) }
     ensures unknown { IfNone result (is_among (account_of request.now) names.now ≡ false) }
@@ -57,6 +59,7 @@ pub fn call_by_seats<R: Wait, S: TurnSeat>(
 ) -> Answer
     requires many { length seats.old ≡ length names.now }
     requires apart { are_apart names.now ≡ true }
+    requires formed { IsFormedRequest request.now }
     ensures bare { map S.bare seats.new ≡ map S.bare seats.old }
     ensures calls { (caller : ℕ) → AllByRecursion (λ seat. (S.bare seat).caller ≡ caller) seats.old
         → Calls (seats_seen caller names.now (map S.own seats.old)) (seats_seen caller names.now (map S.own seats.new))

@@ -5,6 +5,7 @@ ghost use Rattle.pw_types.specs.Moment.{cut_moment};
 ghost use Rattle.account_machine.specs.declared.entry.Entry.{Entry};
 ghost use Rattle.client_output.specs.Output.{NamesPlainly};
 ghost use Rattle.client_output.specs.Seats.{BareSeat};
+ghost use Rattle.request_forms.specs.Formed.{IsFormed};
 ghost use Rattle.request_turns.specs.Taken.{Takes};
 
 use account_machine::{Answer, Request, Turn};
@@ -42,6 +43,7 @@ pub trait TurnSeat {
         turn: Turn,
         moment: u64,
     ) -> Answer
+        requires formed { IsFormed turn }
         ensures bare { bare self.new ≡ bare self.old }
         ensures takes { Takes (bare self.old).caller (cut_moment moment) turn (own self.old) (own self.new) result }
         ensures named { NamesPlainly result };

@@ -4,6 +4,7 @@ ghost use Rattle.std.specs.Prelude.{◌≡◌, ◌<◌, IsSomeAnd, length};
 ghost use Rattle.pw_types.specs.Moment.{cut_moment};
 ghost use Rattle.account_machine.specs.declared.request.Turn.TheVariants as turns;
 ghost use Rattle.client_output.specs.Output.{NamesPlainly};
+ghost use Rattle.request_forms.specs.Formed.{IsFormedRequest};
 ghost use Rattle.client_output.specs.Turns.{Acts, AreClearings, Makes, label_looked};
 ghost use Rattle.request_turns.specs.Taken.{Gives, GrowsBy, most_clearings};
 
@@ -48,6 +49,7 @@ fn act<R: Wait, S: TurnSeat>(
     room: ActRoom<S::Blank>,
     moment: u64,
 ) -> Answer
+    requires formed { IsFormedRequest request.now }
     requires act { room.act.turn ≡ turns.Act request.now }
     requires clearings { length room.clearings.items ≡ most_clearings request.now }
     ensures bare { S.bare seat.new ≡ S.bare seat.old }
@@ -75,6 +77,7 @@ fn look<R: Wait, S: TurnSeat>(
     moment: u64,
 ) -> Answer
     requires look { IsSomeAnd (label_looked request.now) (λ label. first.turn ≡ turns.Look label) }
+    requires formed { IsFormedRequest request.now }
     requires act { room.act.turn ≡ turns.Act request.now }
     requires clearings { length room.clearings.items ≡ most_clearings request.now }
     ensures bare { S.bare seat.new ≡ S.bare seat.old }
@@ -103,6 +106,7 @@ pub fn take_turns<R: Wait, S: TurnSeat>(
     request: &Request,
     moment: u64,
 ) -> Answer
+    requires formed { IsFormedRequest request.now }
     ensures bare { S.bare seat.new ≡ S.bare seat.old }
     ensures makes { Gives (Makes (S.bare seat.old).caller (cut_moment moment) request.now) (S.own seat.old)
         (S.own seat.new) result }

@@ -7,16 +7,14 @@ use Rattle.account_machine.specs.declared.answer.Answer.TheVariants as answers
 use Rattle.account_machine.specs.declared.entry.Entry.{Entry}
 use Rattle.account_machine.specs.declared.entry.Told.{Told}
 use Rattle.account_machine.specs.declared.entry.Told.TheVariants.{Settled}
-use Rattle.account_machine.specs.declared.request.Request.{Request}
-use Rattle.account_machine.specs.declared.request.Request.TheVariants.{Create, StartSession, ExtendSession, EndSession, Authenticate, AddFactor, UpdateFactor, RemoveFactor, ResetPin, ListFactors, Mount, Unmount, PutFile, GetFile, ListFiles}
 use Rattle.account_machine.specs.declared.request.Turn.{Turn}
-use Rattle.account_machine.specs.declared.request.Turn.TheVariants.{Look, Act, Clear}
+use Rattle.account_machine.specs.declared.request.Turn.TheVariants.{Look}
 use Rattle.account_machine.specs.declared.user.Durable.{Durable}
 use Rattle.account_machine.specs.declared.user.User.{User}
 use Rattle.account_machine.specs.Step.{Turned}
 use Rattle.account_machine.specs.Step as machine
 use Rattle.home_recovery.specs.Reading.{RunsOver}
-use Rattle.record_names.specs.Names.{is_account_name, is_factor_label}
+use Rattle.record_names.specs.Names.{is_account_name}
 use Rattle.scrypt_kdf.specs.Derive.{derive}
 use Rattle.share_api.specs.Contents.{Bytes, Contents}
 use Rattle.share_api.specs.Seen.{ShareSeen, HasFailed}
@@ -32,7 +30,6 @@ use Rattle.user_state.specs.Sound.{IsSound, IsTellable}
 use Rattle.user_state.specs.Turns.{IsGiven, KeepsAccount, Turns, secret_of}
 use Rattle.user_state.specs.declared.state.Seen.{Seen}
 use Rattle.user_state.specs.declared.state.UserState.{UserState}
-use Rattle.vault_crypt.specs.VaultFile.{IsFileName}
 
 -- the durable part is the user's, or the second possible one
 abbrev pub IsOneOf : User → Durable → Type 0
@@ -76,29 +73,6 @@ pub record IsAct (old new : ShareSeen) (before after : UserState) (entry : Entry
       after steps user contents
 
 -- ---- what a turn asks
-
--- labels and file names are in their grammars, as those of each line that is read
-abbrev pub IsFormedRequest : Request → Type 0
-IsFormedRequest (Create account) = Unit {0}
-IsFormedRequest (StartSession account intent) = Unit {0}
-IsFormedRequest (ExtendSession account token seconds) = Unit {0}
-IsFormedRequest (EndSession account token) = Unit {0}
-IsFormedRequest (Authenticate account token label secret) = IsTrue (is_factor_label label)
-IsFormedRequest (AddFactor account token label kind secret schedule) = IsTrue (is_factor_label label)
-IsFormedRequest (UpdateFactor account token label secret) = IsTrue (is_factor_label label)
-IsFormedRequest (RemoveFactor account token label) = IsTrue (is_factor_label label)
-IsFormedRequest (ResetPin account token label) = IsTrue (is_factor_label label)
-IsFormedRequest (ListFactors account) = Unit {0}
-IsFormedRequest (Mount account token) = Unit {0}
-IsFormedRequest (Unmount account) = Unit {0}
-IsFormedRequest (PutFile account name bytes) = IsFileName name
-IsFormedRequest (GetFile account name) = IsFileName name
-IsFormedRequest (ListFiles account) = Unit {0}
-
-abbrev pub IsFormed : Turn → Type 0
-IsFormed (Look label) = Unit {0}
-IsFormed (Act request) = IsFormedRequest request
-IsFormed (Clear token) = Unit {0}
 
 -- the derived key is that of the turn's secret, with its own salt and cost
 abbrev pub IsDerivedOf : Option Bytes → Derived → Type 0

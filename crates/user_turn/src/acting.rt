@@ -8,7 +8,8 @@ ghost use Rattle.share_api.specs.Seen.{ShareSeen};
 ghost use Rattle.user_state.specs.Fits.{is_lost};
 ghost use Rattle.user_state.specs.Turns.{IsGiven, secret_of};
 ghost use Rattle.turn_rows.specs.Due.{IsReady, IsDue};
-ghost use Rattle.user_turn.specs.Acts.{GivenOver, IsTurn, IsAct, IsDerivedOf, IsFaultAnswer, IsFormed, IsSteady, RestsOn, ShowsFactor, entry_by};
+ghost use Rattle.request_forms.specs.Formed.{IsFormed};
+ghost use Rattle.user_turn.specs.Acts.{GivenOver, IsTurn, IsAct, IsDerivedOf, IsFaultAnswer, IsSteady, RestsOn, ShowsFactor, entry_by};
 
 use crate::rows::request_row;
 use account_machine::{Answer, Outlined, Token, Told, Turn};

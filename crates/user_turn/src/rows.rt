@@ -12,7 +12,8 @@ ghost use Rattle.user_state.specs.Sound.{IsSound};
 ghost use Rattle.user_state.specs.Turns.{IsGiven, asked_secret};
 ghost use Rattle.turn_rows.specs.Due.{IsReady, IsDue};
 ghost use Rattle.turn_secrets.specs.Checked.{IsOfSecret};
-ghost use Rattle.user_turn.specs.Acts.{GivenOver, IsDerivedOf, IsFormedRequest, RestsOn};
+ghost use Rattle.request_forms.specs.Formed.{IsFormedRequest};
+ghost use Rattle.user_turn.specs.Acts.{GivenOver, IsDerivedOf, RestsOn};
 
 use account_machine::{Answer, Kind, Request, Token};
 use ct_bytes::{NoMemory, Text};

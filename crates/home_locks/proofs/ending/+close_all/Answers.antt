@@ -13,7 +13,7 @@ joined_on-requires-clause-own g t c =
     let whole = All-pop
     (λ part. IsWhole era shared.id part.lock.id part.lock.first.seat part.lock.first.era part.seat) _ _
     (Some c.in-Some.part) c.in-Some.ensures.items c.requires.parts in
-    own_of_shared (g.K.AccountTurns.rules c.in-Some.part.lock.first.era) era _ shared.id _ _ _ _ _ _ _ c.unwrap.result
+    own_of_shared (g.K.AccountTurns.rules c.in-Some.part.lock.first.era) g.K.AccountTurns.ready era _ shared.id _ _ _ _ _ _ _ c.unwrap.result
     c.into_seat-own.result whole.1 c.close-account.ensures.stands c.unwrap.ensures c.into_seat-own.ensures.value
 
 pub returns-clause-closes : goal.returns-clause-closes
@@ -26,7 +26,7 @@ returns-clause-closes g t c =
     (Some c.in-Some.part) items c.requires.parts in
     closes_parts (g.K.AccountTurns.rules era) shared.id (λ part. part.lock.first.seat) (λ part. part.seat)
     (λ part. part.lock.first.state) _ _ _ _ _ _ items
-    (closes_more g.K.AccountTurns.rules era c.in-Some.part.lock.first.era shared.id _ _ _ _ _ _ _ _ _ _ _
+    (closes_more g.K.AccountTurns.rules g.K.AccountTurns.ready era c.in-Some.part.lock.first.era shared.id _ _ _ _ _ _ _ _ _ _ _
     c.unwrap.result c.into_seat-own.result _ _ _ _ c.close_all-first.ensures.closes whole.1
     c.close-account.ensures.stands c.close-account.ensures.entries c.unwrap.ensures c.into_seat-own.ensures.value
     c.push_reserved.ensures.items c.joined_on.ensures)
