@@ -1,15 +1,16 @@
 -- Turns, one after another.
-use Rattle.std.proofs.Common.{◌≡◌, inl, inr, ⊎_elim, ℕ, ◌<◌, ◌%◌, ◌^◌, arith, List, [], ◌∷◌, ◌++◌, refl, sym, ap, subst, ◌∙◌, append_assoc, append-nil}
+use Rattle.std.proofs.Common.{◌≡◌, inl, inr, ⊎_elim, ℕ, ◌<◌, ◌%◌, ◌^◌, arith, List, [], ◌∷◌, ◌++◌, length, refl, sym, ap, subst, ◌∙◌, append_assoc, append-nil}
 use Rattle.std.specs.Prelude.{IsSomeAnd, Contains}
 use Rattle.home_image.specs.Parts.{Meaning}
 use Rattle.home_image.specs.Steps.{Fold}
 use Rattle.std.specs.List.{AllByRecursion}
 use Rattle.std.proofs.lemmas.List.{map-append}
-use Rattle.home_image.specs.Chain.{place_of}
+use Rattle.home_image.specs.Chain.{place_of, steps_of}
 use Rattle.home_image.specs.Book.{Made, entries, steps_in, HoldsOne, SameDurable, among, Turns, Tells, AreClean}
-use Rattle.home_image.specs.Settled.{IsStateOf, BookStands, TurnStands}
+use Rattle.home_image.specs.Settled.{IsStateOf, Opens, BookStands, TurnStands, owned}
 use Rattle.home_image.proofs.ListLemmas.{all-both, all-left, all-right}
-use Rattle.home_image.proofs.ChainLemmas.{place-below}
+use Rattle.home_image.proofs.ChainLemmas.{place-below, places-below}
+use Rattle.home_image.proofs.StepLemmas.{steps-split}
 
 module _ {C S D U E X : Type 0} (m : Meaning C S D U E X) where
   -- a durable part of the later user is one of the earlier user
@@ -27,6 +28,49 @@ module _ {C S D U E X : Type 0} (m : Meaning C S D U E X) where
       → Contains seen new
   stays_seen seen old new [] has f = subst (Contains seen) (sym f) has
   stays_seen seen old new (s ∷ steps) has f = stays_seen seen f.0 new steps f.1.1 f.2
+
+  -- what steps lead to among the contents seen, they lead to
+  pub fold-seen : (seen : List C) (old new : C) (steps : List S)
+      → Fold (among m seen).does old steps new
+      → Fold m.does old steps new
+  fold-seen seen old new [] f = f
+  fold-seen seen old new (s ∷ steps) f = (f.0, f.1.0, fold-seen seen f.0 new steps f.2)
+
+  -- the contents after the steps that opened an account: the state is that of the user over them, and the
+  -- account's other steps lead on from there
+  pub record After (seen : List C) (state : X) (user : U) (own : List (ℕ × S)) (new : C) : Type 0 where
+    pub mid : C
+    pub has : Contains seen mid
+    pub state_of : IsStateOf m state mid user
+    pub fold : Fold (among m seen).does mid (steps_of own) new
+
+  -- steps that open an account, and then others
+  pub opens-then : (seen : List C) (state : X) (user : U) (early own : List (ℕ × S)) (first new : C)
+      → Opens m state (steps_of early) first user
+      → Contains seen first
+      → Fold (among m seen).does first (steps_of (early ++ own)) new
+      → After seen state user own new
+  opens-then seen state user early own first new opens has f =
+      let split = steps-split (among m seen).does first new early own f in
+      record {
+        mid = split.0;
+        has = stays_seen seen first split.0 (steps_of early) has split.1;
+        state_of = opens.opened split.0 (fold-seen seen first split.0 (steps_of early) split.1);
+        fold = split.2;
+      }
+
+  -- no steps open a state that is that of the user
+  pub opens-at_once : (state : X) (contents : C) (user : U)
+      → IsStateOf m state contents user → Opens m state [] contents user
+  opens-at_once state contents user is = record {
+    throughout = is.holds;
+    opened = λ new same. subst (λ c. IsStateOf m state c user) (sym same) is;
+  }
+
+  -- and a state that no steps open is that of the user
+  pub opened-at_once : (state : X) (contents : C) (user : U)
+      → Opens m state [] contents user → IsStateOf m state contents user
+  opened-at_once state contents user opens = opens.opened contents refl
 
   -- what is clean for a book is clean for its first turn
   pub clean_first : (seen : List C) (user : U) (e : E) (es : List E)
@@ -106,6 +150,26 @@ module _ {C S D U E X : Type 0} (m : Meaning C S D U E X) where
         omega (arith, few, at, small),
         places-exact n made small (all-right (λ known. known.0 < n) turn.own (steps_in made) below) places.1,
       )
+
+  -- a book's steps have places below the chain's length
+  pub own-below : (account : ℕ) (chain : List S) (early own : List (ℕ × S)) (before after : X) (book : List E)
+      (stands : BookStands m before after own book)
+      → owned m account chain ≡ early ++ own
+      → AllByRecursion (λ known. known.0 < length chain) (steps_in stands.made)
+  own-below account chain early own before after book stands parts =
+      subst (AllByRecursion (λ known. known.0 < length chain)) (sym stands.own_is)
+      (all-right (λ known. known.0 < length chain) early own
+      (subst (AllByRecursion (λ known. known.0 < length chain)) parts (places-below m.account account chain)))
+
+  -- so its places are its turns' own
+  pub own-exact : (account : ℕ) (chain : List S) (early own : List (ℕ × S)) (before after : X) (book : List E)
+      (stands : BookStands m before after own book)
+      → owned m account chain ≡ early ++ own
+      → length chain < 2 ^ 64
+      → AllByRecursion (λ turn. m.place turn.entry ≡ place_of turn.own) stands.made
+  own-exact account chain early own before after book stands parts small =
+      places-exact (length chain) stands.made small
+      (own-below account chain early own before after book stands parts) stands.places
 
   -- more turns at the end
   tells-more : (seen : List C) (Old New : C → U → Type 0) (made more : List (Made S E)) (c : C) (user : U)

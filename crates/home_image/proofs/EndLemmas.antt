@@ -1,18 +1,17 @@
 -- The end of a book, by what its turns say.
-use Rattle.std.proofs.Common.{◌≡◌, ◌⊎◌, inl, inr, ℕ, ◌+◌, ◌<◌, ◌^◌, List, [], ◌∷◌, length, refl, sym, subst, arith}
+use Rattle.std.proofs.Common.{◌≡◌, ◌⊎◌, inl, inr, ℕ, ◌+◌, ◌<◌, ◌^◌, List, [], ◌∷◌, ◌++◌, length, refl, sym, subst, arith}
 use Rattle.std.specs.Prelude.{Contains}
 use Rattle.std.specs.List.{AllByRecursion}
-use Rattle.std.proofs.lemmas.List.{map-append}
 use Rattle.home_image.specs.Parts.{Meaning}
 use Rattle.home_image.specs.Steps.{Fold}
 use Rattle.home_image.specs.Chain.{steps_of, place_of}
 use Rattle.home_image.specs.Book.{Made, entries, steps_in, SameDurable, among, Tells, AreClean}
 use Rattle.home_image.specs.Place.{IsWithin, AreHeld}
-use Rattle.home_image.specs.Settled.{IsStateOf, BookStands, IsLed, BookEnds, owned}
+use Rattle.home_image.specs.Settled.{IsStateOf, Opens, BookStands, IsLed, BookEnds, owned}
 use Rattle.home_image.proofs.ListLemmas.{all-left, all-right}
-use Rattle.share_api.proofs.FoldLaws.{fold_split}
-use Rattle.home_image.proofs.ChainLemmas.{place-positive, place-below, places-below}
-use Rattle.home_image.proofs.BookLemmas.{stays_seen, clean_first, clean_rest, places-exact}
+use Rattle.home_image.proofs.StepLemmas.{steps-split}
+use Rattle.home_image.proofs.ChainLemmas.{place-positive, place-below}
+use Rattle.home_image.proofs.BookLemmas.{stays_seen, clean_first, clean_rest, opens-then, own-below, own-exact}
 
 module _ {C S D U E X : Type 0} (m : Meaning C S D U E X) where
   -- an entry has a place up to n, or no device step
@@ -40,9 +39,7 @@ module _ {C S D U E X : Type 0} (m : Meaning C S D U E X) where
       (user, refl, subst (λ x. End x user) (sym f) tells)
   ends-tells n seen End (turn ∷ made) c now user has clean tells places below f =
       let told = tells has (clean_first m seen user turn.entry (entries made) clean) in
-      let cut = subst (λ xs. Fold (among m seen).does c xs now)
-      (map-append (λ (known : ℕ × S). known.1) turn.own (steps_in made)) f in
-      let split = fold_split (among m seen).does c now (steps_of turn.own) (steps_of (steps_in made)) cut in
+      let split = steps-split (among m seen).does c now turn.own (steps_in made) f in
       let led = told.leads split.0 split.1 in
       let rest = ends-tells n seen End made split.0 now led.0
       (stays_seen m seen c split.0 (steps_of turn.own) has split.1)
@@ -59,23 +56,26 @@ module _ {C S D U E X : Type 0} (m : Meaning C S D U E X) where
         rest.2,
       )
 
-  -- contents to which an account's whole chain leads hold the user at the end of its book
-  pub ends-led : (account : ℕ) (chain : List S) (before after : X) (first now : C) (seen : List C)
-      (user : U) (book : List E)
-      → BookStands m before after (owned m account chain) book
-      → IsStateOf m before first user
+  -- Contents to which an account's whole chain leads hold the user at the end of its book. Its first steps
+  -- open it, and the others are those of its book.
+  pub ends-led : (account : ℕ) (chain : List S) (early own : List (ℕ × S)) (before after : X) (first now : C)
+      (seen : List C) (user : U) (book : List E)
+      → BookStands m before after own book
+      → owned m account chain ≡ early ++ own
+      → Opens m before (steps_of early) first user
       → AreClean m seen user book
       → length chain < 2 ^ 64
       → IsLed m chain account seen first now
       → BookEnds m (length chain) after user book now
-  ends-led account chain before after first now seen user book stands opened clean small led =
-      let below = subst (AllByRecursion (λ known. known.0 < length chain)) (sym stands.own_is)
-      (places-below m.account account chain) in
-      let exact = places-exact m (length chain) stands.made small below stands.places in
-      let ends = ends-tells (length chain) seen (IsStateOf m after) stands.made first now user led.start
+  ends-led account chain early own before after first now seen user book stands parts opens clean small led =
+      let opened = opens-then m seen before user early own first now opens led.start
+      (subst (λ xs. Fold (among m seen).does first (steps_of xs) now) parts led.fold) in
+      let ends = ends-tells (length chain) seen (IsStateOf m after) stands.made opened.mid now user opened.has
       (subst (λ es. AreClean m seen user es) (sym stands.book_is) clean)
-      (stands.right seen first user opened) exact below
-      (subst (λ xs. Fold (among m seen).does first (steps_of xs) now) (sym stands.own_is) led.fold) in
+      (stands.right seen opened.mid user opened.state_of)
+      (own-exact m account chain early own before after book stands parts small)
+      (own-below m account chain early own before after book stands parts)
+      (subst (λ xs. Fold (among m seen).does opened.mid (steps_of xs) now) (sym stands.own_is) opened.fold) in
       record {
         last = ends.0;
         held = subst (λ es. AreHeld m (length chain) user es ends.0) stands.book_is ends.1;

@@ -2,18 +2,16 @@
 use Rattle.std.proofs.Common.{◌≡◌, ◌⊎◌, inl, inr, ⊎_elim, ℕ, ◌+◌, ◌≤◌, ◌<◌, ◌^◌, List, [], ◌∷◌, ◌++◌, take, length, refl, sym, ap, subst, ◌∙◌, arith}
 use Rattle.std.specs.Prelude.{Contains}
 use Rattle.std.specs.List.{AllByRecursion}
-use Rattle.std.proofs.lemmas.List.{map-append}
 use Rattle.home_image.specs.Parts.{Meaning}
-use Rattle.home_image.specs.Steps.{Fold, Throughout}
+use Rattle.home_image.specs.Steps.{Fold}
 use Rattle.home_image.specs.Chain.{steps_of, place_of}
 use Rattle.home_image.specs.Book.{Made, entries, steps_in, HoldsOne, SameDurable, HoldsAround, among, Tells, AreClean}
 use Rattle.home_image.specs.Place.{IsWithin, EndsWithin, HoldsAfter, HoldsFlying, At}
 use Rattle.home_image.proofs.ListLemmas.{two_cuts, first_of_none, all-left, all-right}
-use Rattle.share_api.proofs.FoldLaws.{fold_split}
-use Rattle.home_image.proofs.StepLemmas.{throughout-part}
-use Rattle.home_image.specs.Settled.{BookStands, IsLed, IsStateOf, owned}
-use Rattle.home_image.proofs.ChainLemmas.{place-positive, place-below, place-past, places-below, chain-cut}
-use Rattle.home_image.proofs.BookLemmas.{same_parts, stays_seen, clean_first, clean_rest, places-exact}
+use Rattle.home_image.proofs.StepLemmas.{throughout-first, steps-split}
+use Rattle.home_image.specs.Settled.{BookStands, IsLed, IsStateOf, Opens, owned}
+use Rattle.home_image.proofs.ChainLemmas.{place-positive, place-below, place-past, chain-cut}
+use Rattle.home_image.proofs.BookLemmas.{same_parts, stays_seen, fold-seen, clean_first, clean_rest, opens-then, own-exact}
 
 module _ {C S D U E X : Type 0} (m : Meaning C S D U E X) (n : ℕ) where
   -- what holds after entries holds after one more at the front
@@ -168,6 +166,21 @@ module _ {C S D U E X : Type 0} (m : Meaning C S D U E X) (n : ℕ) where
         around;
   }
 
+  -- contents before the first step of a book are at place n
+  at-before : (user : U) (made : List (Made S E)) (x : C)
+      → HoldsOne m user x
+      → AllByRecursion (λ turn. m.place turn.entry ≡ place_of turn.own) made
+      → AllByRecursion (λ known. n ≤ known.0) (steps_in made)
+      → At m n user (entries made) x
+  at-before user made x h places above = record {
+    done = [];
+    after = entries made;
+    parts = refl;
+    last = tt;
+    none = none-within made places above;
+    holds = inl (record { last = user; legal = refl; holds = h });
+  }
+
   -- contents before the first entry are at each place
   at-start : (user : U) (x c : C) → HoldsOne m user c → x ≡ c → At m n user [] x
   at-start user x c h e = record {
@@ -200,10 +213,8 @@ module _ {C S D U E X : Type 0} (m : Meaning C S D U E X) (n : ℕ) where
       ⊎_elim
       (λ cut.
       let below_parts = subst (AllByRecursion (λ known. known.0 < n)) cut.1 below in
-      let cut_steps = subst (λ xs. Fold (among m seen).does c xs x)
-      (map-append (λ (known : ℕ × S). known.1) turn.own cut.0)
+      let split = steps-split (among m seen).does c x turn.own cut.0
       (subst (λ xs. Fold (among m seen).does c (steps_of xs) x) cut.1 f) in
-      let split = fold_split (among m seen).does c x (steps_of turn.own) (steps_of cut.0) cut_steps in
       let led = told.leads split.0 split.1 in
       at-cons user led.0 turn.entry (entries made) x turn.own led.1.allowed led.1.idle places.0
       (all-left (λ known. known.0 < n) turn.own cut.0 below_parts)
@@ -217,35 +228,47 @@ module _ {C S D U E X : Type 0} (m : Meaning C S D U E X) (n : ℕ) where
       let own_above = all-left (λ known. n ≤ known.0) (cut.0 ∷ cut.1) (steps_in made) above_parts in
       let past = place-past n 0 before cut.0 cut.1 own_above in
       let at : place_of turn.own ≡ place_of (before ++ cut.0 ∷ cut.1) = ap place_of cut.2 in
-      let steps : steps_of turn.own ≡ steps_of before ++ steps_of (cut.0 ∷ cut.1) =
-      ap steps_of cut.2 ∙ map-append (λ (known : ℕ × S). known.1) before (cut.0 ∷ cut.1) in
       at-flying user turn.entry (entries made) x
-      (throughout-part (among m seen).does (HoldsAround m user turn.entry) c x (steps_of before)
-      (steps_of (cut.0 ∷ cut.1))
-      (subst (λ xs. Throughout (among m seen).does (HoldsAround m user turn.entry) c xs) steps
-      told.throughout) f)
+      (throughout-first (among m seen).does (HoldsAround m user turn.entry) c x turn.own before
+      (cut.0 ∷ cut.1) cut.2 told.throughout f)
       (let place_is = places.0 in omega (arith, at, place_is, past))
       (none-within made places.1
       (all-right (λ known. n ≤ known.0) (cut.0 ∷ cut.1) (steps_in made) above_parts)))
       (two_cuts turn.own (steps_in made) before after parts)
 
--- Contents to which an account's steps among the first n of a chain lead are those at place n.
+-- Contents to which an account's steps among the first n of a chain lead are those at place n. The account's
+-- first steps in the chain open it, and the others are those of its book.
 pub at-led : {C S D U E X : Type 0} (m : Meaning C S D U E X) (n account : ℕ) (chain : List S)
-    (before after : X) (first image : C) (seen : List C) (user : U) (book : List E)
-    → BookStands m before after (owned m account chain) book
-    → IsStateOf m before first user
+    (early own : List (ℕ × S)) (before after : X) (first image : C) (seen : List C) (user : U) (book : List E)
+    → BookStands m before after own book
+    → owned m account chain ≡ early ++ own
+    → Opens m before (steps_of early) first user
     → AreClean m seen user book
     → length chain < 2 ^ 64
     → n ≤ length chain
     → IsLed m (take n chain) account seen first image
     → At m n user book image
-at-led m n account chain before after first image seen user book stands opened clean small fits led =
+at-led m n account chain early own before after first image seen user book stands parts opens clean small fits led =
     let cut = chain-cut m.account n account chain fits in
-    let exact = places-exact m (length chain) stands.made small
-    (subst (AllByRecursion (λ known. known.0 < length chain)) (sym stands.own_is)
-    (places-below m.account account chain)) stands.places in
+    let made = owned m account (take n chain) in
+    let exact = own-exact m account chain early own before after book stands parts small in
     subst (λ es. At m n user es image) stands.book_is
-    (at-tells m n seen (IsStateOf m after) stands.made first image user (owned m account (take n chain))
-    cut.rest opened.holds led.start
-    (subst (λ es. AreClean m seen user es) (sym stands.book_is) clean)
-    (stands.right seen first user opened) exact (stands.own_is ∙ cut.whole) cut.below cut.above led.fold)
+    (⊎_elim
+    (λ opened.
+    let then = opens-then m seen before user early opened.0 first image opens led.start
+    (subst (λ xs. Fold (among m seen).does first (steps_of xs) image) opened.1 led.fold) in
+    at-tells m n seen (IsStateOf m after) stands.made then.mid image user opened.0 cut.rest then.state_of.holds
+    then.has (subst (λ es. AreClean m seen user es) (sym stands.book_is) clean)
+    (stands.right seen then.mid user then.state_of) exact (stands.own_is ∙ opened.2)
+    (all-right (λ known. known.0 < n) early opened.0
+    (subst (AllByRecursion (λ known. known.0 < n)) opened.1 cut.below))
+    cut.above then.fold)
+    (λ opening.
+    at-before m n user stands.made image
+    (throughout-first m.does (HoldsOne m user) first image early made (opening.0 ∷ opening.1) opening.2
+    opens.throughout (fold-seen m seen first image (steps_of made) led.fold))
+    exact
+    (subst (AllByRecursion (λ known. n ≤ known.0)) (sym stands.own_is)
+    (all-right (λ known. n ≤ known.0) (opening.0 ∷ opening.1) own
+    (subst (AllByRecursion (λ known. n ≤ known.0)) opening.3 cut.above))))
+    (two_cuts early own made cut.rest (sym parts ∙ cut.whole)))

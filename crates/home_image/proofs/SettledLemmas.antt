@@ -10,28 +10,30 @@ use Rattle.turn_lock.specs.Lists.{entries_from}
 use Rattle.home_image.specs.Chain.{steps_of, place_from, place_of}
 use Rattle.home_image.specs.Book.{Made, AreClean, among, entries, steps_in}
 use Rattle.home_image.specs.Place.{HasPlace}
-use Rattle.home_image.specs.Settled.{BookStands, IsStateOf, IsLed, IsLeft, IsAtPlace, owned}
-use Rattle.home_image.proofs.ChainLemmas.{entries_from-append, places-below, place-below}
-use Rattle.home_image.proofs.BookLemmas.{places-exact}
+use Rattle.home_image.specs.Settled.{BookStands, Opens, IsLed, IsLeft, IsAtPlace, owned}
+use Rattle.home_image.proofs.ChainLemmas.{entries_from-append, place-below}
+use Rattle.home_image.proofs.BookLemmas.{own-below, own-exact}
 use Rattle.home_image.proofs.ListLemmas.{two_cuts, some_in, one_left, all-left, all-right}
 use Rattle.home_image.proofs.PlaceLemmas.{at-led}
 
 module _ {C S D U E X : Type 0} (m : Meaning C S D U E X) where
   -- parts to which all accounts' steps among the first n lead are at place n of all books
-  pub at-left : (n accounts : ℕ) (chain : List S) (before after : ℕ → X) (first image : ℕ → C)
-      (seen : ℕ → List C) (user : ℕ → U) (book : ℕ → List E)
+  pub at-left : (n accounts : ℕ) (chain : List S) (early own : ℕ → List (ℕ × S)) (before after : ℕ → X)
+      (first image : ℕ → C) (seen : ℕ → List C) (user : ℕ → U) (book : ℕ → List E)
       → ((account : ℕ) → account < accounts
-      → BookStands m (before account) (after account) (owned m account chain) (book account))
-      → ((account : ℕ) → account < accounts → IsStateOf m (before account) (first account) (user account))
+      → BookStands m (before account) (after account) (own account) (book account))
+      → ((account : ℕ) → account < accounts → owned m account chain ≡ early account ++ own account)
+      → ((account : ℕ) → account < accounts
+      → Opens m (before account) (steps_of (early account)) (first account) (user account))
       → ((account : ℕ) → account < accounts → AreClean m (seen account) (user account) (book account))
       → length chain < 2 ^ 64
       → IsLeft m n accounts chain seen first image
       → IsAtPlace m n accounts user book image
-  at-left n accounts chain before after first image seen user book stands opened clean small left =
+  at-left n accounts chain early own before after first image seen user book stands parts opens clean small left =
       λ account below.
-      at-led m n account chain (before account) (after account) (first account) (image account)
-      (seen account) (user account) (book account) (stands account below) (opened account below)
-      (clean account below) small left.within (left.each account below)
+      at-led m n account chain (early account) (own account) (before account) (after account) (first account)
+      (image account) (seen account) (user account) (book account) (stands account below) (parts account below)
+      (opens account below) (clean account below) small left.within (left.each account below)
 
   -- a step of another account isn't among this account's
   owned-other : (account : ℕ) (before : List S) (step : S)
@@ -118,24 +120,30 @@ module _ {C S D U E X : Type 0} (m : Meaning C S D U E X) where
       inl (places.0 ∙ ap place_of end ∙ place-last 0 before known))
       (two_cuts turn.own (steps_in made) before (known ∷ []) is)
 
-  -- the last step of a chain is of a turn whose place is the chain's length
-  pub last-place : (chain : List S) (step : S) (before after : X) (book : List E)
-      → BookStands m before after (owned m (m.account step) (chain ++ step ∷ [])) book
+  -- the last step of a chain is of a turn whose place is the chain's length, or of those that open its account
+  pub last-place : (chain : List S) (step : S) (early own : List (ℕ × S)) (before after : X) (book : List E)
+      → BookStands m before after own book
+      → owned m (m.account step) (chain ++ step ∷ []) ≡ early ++ own
       → length (chain ++ step ∷ []) < 2 ^ 64
-      → HasPlace m (length (chain ++ step ∷ [])) book
-  last-place chain step before after book stands small =
+      → HasPlace m (length (chain ++ step ∷ [])) book ⊎ (place_of early ≡ length (chain ++ step ∷ []))
+  last-place chain step early own before after book stands parts small =
       let account = m.account step in
-      let exact = places-exact m (length (chain ++ step ∷ [])) stands.made small
-      (subst (AllByRecursion (λ known. known.0 < length (chain ++ step ∷ []))) (sym stands.own_is)
-      (places-below m.account account (chain ++ step ∷ []))) stands.places in
-      let mine : owned m account (chain ++ step ∷ []) ≡ owned m account chain ++ (length chain, step) ∷ [] =
+      let exact = own-exact m account (chain ++ step ∷ []) early own before after book stands parts small in
+      let made = owned m account chain in
+      let known : ℕ × S = (length chain, step) in
+      let mine : owned m account (chain ++ step ∷ []) ≡ made ++ known ∷ [] =
       owned-more account chain (step ∷ [])
-      ∙ ap (λ mine. owned m account chain ++ ((if mine then (length chain, step) ∷ [] else []) ++ []))
-      (eq-eqb (m.account step) account refl) in
-      let size = length-append chain (step ∷ []) in
-      subst (λ es. HasPlace m (length (chain ++ step ∷ [])) es) stands.book_is
-      (subst (λ (n : ℕ). HasPlace m n (entries stands.made)) (omega (arith, size))
-      (has-last stands.made (owned m account chain) (length chain, step) exact (stands.own_is ∙ mine)))
+      ∙ ap (λ mine. made ++ ((if mine then known ∷ [] else []) ++ [])) (eq-eqb (m.account step) account refl) in
+      let size : length (chain ++ step ∷ []) ≡ length chain + 1 = length-append chain (step ∷ []) in
+      ⊎_elim
+      (λ cut. inl
+      (subst (λ es. HasPlace m (length (chain ++ step ∷ [])) es) stands.book_is
+      (subst (λ (n : ℕ). HasPlace m n (entries stands.made)) (sym size)
+      (has-last stands.made cut.0 known exact (stands.own_is ∙ cut.2)))))
+      (λ cut. inr
+      (ap place_of (cut.2 ∙ ap (λ (xs : List (ℕ × S)). made ++ xs) (one_left cut.0 cut.1 own known cut.3))
+      ∙ place-last 0 made known ∙ sym size))
+      (two_cuts early own made (known ∷ []) (sym parts ∙ mine))
 
   -- turns with all steps below n have places up to n
   few : (n : ℕ) (made : List (Made S E))
@@ -152,13 +160,12 @@ module _ {C S D U E X : Type 0} (m : Meaning C S D U E X) where
       )
 
   -- no place of a book is above the chain's length
-  pub places-few : (account : ℕ) (chain : List S) (before after : X) (book : List E)
-      → BookStands m before after (owned m account chain) book
+  pub places-few : (account : ℕ) (chain : List S) (early own : List (ℕ × S)) (before after : X) (book : List E)
+      → BookStands m before after own book
+      → owned m account chain ≡ early ++ own
       → length chain < 2 ^ 64
       → AllByRecursion (λ e. m.place e ≤ length chain) book
-  places-few account chain before after book stands small =
-      let below = subst (AllByRecursion (λ known. known.0 < length chain)) (sym stands.own_is)
-      (places-below m.account account chain) in
+  places-few account chain early own before after book stands parts small =
       subst (AllByRecursion (λ e. m.place e ≤ length chain)) stands.book_is
-      (few (length chain) stands.made
-      (places-exact m (length chain) stands.made small below stands.places) below)
+      (few (length chain) stands.made (own-exact m account chain early own before after book stands parts small)
+      (own-below m account chain early own before after book stands parts))

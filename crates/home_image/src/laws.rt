@@ -1,17 +1,24 @@
 //! Laws over books and device steps. Each function has an empty body: its contract is the law.
 
-ghost use Rattle.std.specs.Prelude.{◌≡◌, ◌≢◌, ◌⊎◌, ◌≤◌, ◌<◌, ◌+◌, ◌^◌, ℕ, List, [], ◌∷◌, ◌++◌, take, length};
-ghost use Rattle.home_image.specs.Book.{Made, AreClean};
-ghost use Rattle.home_image.specs.Place.{At, HasPlace};
+ghost use Rattle.std.specs.Prelude.{◌≡◌, ◌≢◌, ◌⊎◌, ◌↔◌, ◌≤◌, ◌<◌, ◌+◌, ◌^◌, ℕ, List, [], ◌∷◌, ◌++◌, take, length};
 ghost use Rattle.std.specs.List.{AllByRecursion};
 ghost use Rattle.turn_lock.specs.Lists.{entries_from};
-ghost use Rattle.home_image.specs.Settled.{BookStands, TurnStands, IsLed, IsStateOf, BookEnds, IsLeft, IsAtPlace, owned, BooksGo, AreTurnOf, OneTurn};
+ghost use Rattle.home_image.specs.Chain.{steps_of, place_of};
+ghost use Rattle.home_image.specs.Book.{Made, AreClean};
+ghost use Rattle.home_image.specs.Place.{At, HasPlace};
+ghost use Rattle.home_image.specs.Settled.{BookStands, TurnStands, IsLed, IsStateOf, Opens, BookEnds, IsLeft, IsAtPlace, owned, BooksGo, AreTurnOf, OneTurn};
 
 use crate::parts::Parts;
 
 /// An empty book stands.
 pub fn new_book_stands<P: Parts>()
     ensures { (state : P.State) → BookStands P.meaning state state [] [] }
+{}
+
+/// Where no steps open an account, its state is that of the user at once.
+pub fn no_steps_open_at_once<P: Parts>()
+    ensures { (state : P.State) (contents : P.Contents) (user : P.User)
+        → Opens P.meaning state [] contents user ↔ IsStateOf P.meaning state contents user }
 {}
 
 /// A book stands after one turn more, whose device steps are the account's next.
@@ -41,27 +48,37 @@ pub fn steps_and_then_more<P: Parts>()
         ++ entries_from P.meaning.account (length chain) account more }
 {}
 
-/// The last step of the chain is that of an entry, whose place is the chain's length, and no place is
-/// greater. So the end of the chain is the greatest place in the books.
+/// The last step of the chain is that of an entry, whose place is the chain's length, or it is the last of
+/// those that open its account. No entry has a greater place. So where the last step is a turn's, the end of
+/// the chain is the greatest place in the books.
+///
+/// The account's steps in the chain are first those that open it, `early`, and then those of its book.
 pub fn end_is_the_greatest_place<P: Parts>()
-    ensures last { (chain : List P.Step) (step : P.Step) (before after : P.State) (book : List P.Entry)
-        → BookStands P.meaning before after (owned P.meaning (P.meaning.account step) (chain ++ step ∷ []))
-        book
+    ensures last { (chain : List P.Step) (step : P.Step) (early own : List (ℕ × P.Step))
+        (before after : P.State) (book : List P.Entry)
+        → BookStands P.meaning before after own book
+        → owned P.meaning (P.meaning.account step) (chain ++ step ∷ []) ≡ early ++ own
         → length (chain ++ step ∷ []) < 2 ^ 64
-        → HasPlace P.meaning (length (chain ++ step ∷ [])) book }
-    ensures within { (account : ℕ) (chain : List P.Step) (before after : P.State) (book : List P.Entry)
-        → BookStands P.meaning before after (owned P.meaning account chain) book
+        → HasPlace P.meaning (length (chain ++ step ∷ [])) book
+        ⊎ (place_of early ≡ length (chain ++ step ∷ [])) }
+    ensures within { (account : ℕ) (chain : List P.Step) (early own : List (ℕ × P.Step))
+        (before after : P.State) (book : List P.Entry)
+        → BookStands P.meaning before after own book
+        → owned P.meaning account chain ≡ early ++ own
         → length chain < 2 ^ 64
         → AllByRecursion (λ e. P.meaning.place e ≤ length chain) book }
 {}
 
 /// A book is legal up to a user of whom the contents now hold a durable part. Each entry that changed a
 /// durable part has a place from 1 to the end of the chain.
+///
+/// The account's steps in the chain are first those that open it, `early`, and then those of its book.
 pub fn book_is_legal_and_held<P: Parts>()
-    ensures { (account : ℕ) (chain : List P.Step) (before after : P.State) (first now : P.Contents)
-        (seen : List P.Contents) (user : P.User) (book : List P.Entry)
-        → BookStands P.meaning before after (owned P.meaning account chain) book
-        → IsStateOf P.meaning before first user
+    ensures { (account : ℕ) (chain : List P.Step) (early own : List (ℕ × P.Step)) (before after : P.State)
+        (first now : P.Contents) (seen : List P.Contents) (user : P.User) (book : List P.Entry)
+        → BookStands P.meaning before after own book
+        → owned P.meaning account chain ≡ early ++ own
+        → Opens P.meaning before (steps_of early) first user
         → AreClean P.meaning seen user book
         → length chain < 2 ^ 64
         → IsLed P.meaning chain account seen first now
@@ -69,12 +86,16 @@ pub fn book_is_legal_and_held<P: Parts>()
 {}
 
 /// Contents to which an account's device steps among the first `n` lead are those at place `n` of its
-/// book.
+/// book. Where all of them are steps that open the account, no change is done there.
+///
+/// The account's steps in the chain are first those that open it, `early`, and then those of its book.
 pub fn contents_are_at_their_place<P: Parts>()
-    ensures { (n account : ℕ) (chain : List P.Step) (before after : P.State) (first image : P.Contents)
-        (seen : List P.Contents) (user : P.User) (book : List P.Entry)
-        → BookStands P.meaning before after (owned P.meaning account chain) book
-        → IsStateOf P.meaning before first user
+    ensures { (n account : ℕ) (chain : List P.Step) (early own : List (ℕ × P.Step))
+        (before after : P.State) (first image : P.Contents) (seen : List P.Contents) (user : P.User)
+        (book : List P.Entry)
+        → BookStands P.meaning before after own book
+        → owned P.meaning account chain ≡ early ++ own
+        → Opens P.meaning before (steps_of early) first user
         → AreClean P.meaning seen user book
         → length chain < 2 ^ 64
         → n ≤ length chain
@@ -82,15 +103,18 @@ pub fn contents_are_at_their_place<P: Parts>()
         → At P.meaning n user book image }
 {}
 
-/// An image is at one and the same place of the books of all accounts.
+/// An image is at one and the same place of the books of all accounts. Each account's steps in the chain are
+/// first those that open it, and then those of its book.
 pub fn image_is_at_one_place<P: Parts>()
-    ensures { (n accounts : ℕ) (chain : List P.Step) (before after : ℕ → P.State)
-        (first image : ℕ → P.Contents) (seen : ℕ → List P.Contents) (user : ℕ → P.User)
-        (book : ℕ → List P.Entry)
-        → ((account : ℕ) → account < accounts → BookStands P.meaning (before account) (after account)
-        (owned P.meaning account chain) (book account))
+    ensures { (n accounts : ℕ) (chain : List P.Step) (early own : ℕ → List (ℕ × P.Step))
+        (before after : ℕ → P.State) (first image : ℕ → P.Contents) (seen : ℕ → List P.Contents)
+        (user : ℕ → P.User) (book : ℕ → List P.Entry)
         → ((account : ℕ) → account < accounts
-        → IsStateOf P.meaning (before account) (first account) (user account))
+        → BookStands P.meaning (before account) (after account) (own account) (book account))
+        → ((account : ℕ) → account < accounts
+        → owned P.meaning account chain ≡ early account ++ own account)
+        → ((account : ℕ) → account < accounts
+        → Opens P.meaning (before account) (steps_of (early account)) (first account) (user account))
         → ((account : ℕ) → account < accounts
         → AreClean P.meaning (seen account) (user account) (book account))
         → length chain < 2 ^ 64

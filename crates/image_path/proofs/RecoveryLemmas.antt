@@ -1,8 +1,9 @@
 -- From what stands to what the books need.
-use Rattle.std.proofs.Common.{◌≡◌, ℕ, ◌≤◌, ◌<◌, ◌^◌, List, take, length, subst}
+use Rattle.std.proofs.Common.{◌≡◌, ℕ, ◌≤◌, ◌<◌, ◌^◌, List, ◌++◌, take, length, subst}
 use Rattle.board_model.specs.Disk.{Image, Disk}
 use Rattle.home_image.specs.Parts.{Meaning}
-use Rattle.home_image.specs.Settled.{BookStands, IsStateOf, IsAtPlace, owned}
+use Rattle.home_image.specs.Chain.{steps_of}
+use Rattle.home_image.specs.Settled.{BookStands, Opens, IsAtPlace, owned}
 use Rattle.home_image.proofs.SettledLemmas.{at-left}
 use Rattle.image_path.specs.Showing.{ByAccount}
 use Rattle.image_path.specs.Paths.{shown_since, Stands, StandsSince, IsLedIn, IsLeftAt, Recovers, AreBooksClean}
@@ -59,25 +60,28 @@ module _ {C S D U E X : Type 0} (m : Meaning C S D U E X) (shows : Image → ByA
 
   -- Each image since the tick is at one place of all books, and that is no earlier than the steps that
   -- had ended by the tick.
-  pub images-at-one-place : (tick ended accounts : ℕ) (before after : ℕ → X) (user : ℕ → U) (book : ℕ → List E)
+  pub images-at-one-place : (tick ended accounts : ℕ) (early own : ℕ → List (ℕ × S)) (before after : ℕ → X)
+      (user : ℕ → U) (book : ℕ → List E)
       → StandsSince m.account m.does shows since first tick ended disk chain
       → ((account : ℕ) → account < accounts
-      → BookStands m (before account) (after account) (owned m account chain) (book account))
-      → ((account : ℕ) → account < accounts → IsStateOf m (before account) (first account) (user account))
+      → BookStands m (before account) (after account) (own account) (book account))
+      → ((account : ℕ) → account < accounts → owned m account chain ≡ early account ++ own account)
+      → ((account : ℕ) → account < accounts
+      → Opens m (before account) (steps_of (early account)) (first account) (user account))
       → AreBooksClean m shows since disk accounts user book
       → length chain < 2 ^ 64
       → (i : Image) → disk.left_since tick i
       → (parts : ByAccount C) × shows i parts × (n : ℕ) × (ended ≤ n) × (n ≤ length chain)
       × IsAtPlace m n accounts user book parts
-  images-at-one-place tick ended accounts before after user book stands books opened clean fits i left =
+  images-at-one-place tick ended accounts early own before after user book stands books parts opens clean fits i left =
       let at = left-at tick ended stands i left in (
         at.0,
         at.1,
         at.2,
         at.3,
         at.4.within,
-        at-left m at.2 accounts chain before after first at.0 (λ account. (at.4.each account).seen)
-            user book books opened
+        at-left m at.2 accounts chain early own before after first at.0 (λ account. (at.4.each account).seen)
+            user book books parts opens
             (λ account le. clean account le (at.4.each account).seen (at.4.each account).parts)
             fits (record { within = at.4.within; each = λ account le. (at.4.each account).led }),
       )

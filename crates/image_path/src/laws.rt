@@ -2,7 +2,8 @@
 
 ghost use Rattle.std.specs.Prelude.{◌≡◌, ◌≤◌, ◌<◌, ◌^◌, ℕ, List, [], ◌∷◌, ◌++◌, length};
 ghost use Rattle.board_model.specs.Disk.{Image, Leaves};
-ghost use Rattle.home_image.specs.Settled.{BookStands, IsStateOf, IsAtPlace, owned};
+ghost use Rattle.home_image.specs.Chain.{steps_of};
+ghost use Rattle.home_image.specs.Settled.{BookStands, Opens, IsAtPlace, owned};
 ghost use Rattle.image_path.specs.Showing.{ByAccount, AreSame, Shown, StepGoes};
 ghost use Rattle.image_path.specs.Paths.{Stands, StandsSince, AreBooksClean};
 ghost use Rattle.image_path.specs.Doubt.{StepGoesFrom, StandsFrom};
@@ -76,15 +77,19 @@ pub fn images_stay_where_nothing_is_shown_anew<P: ImageParts, B: Board>()
 {}
 
 /// Each image since the tick shows contents that are at one place of all books, no earlier than the steps
-/// that had ended by the tick.
+/// that had ended by the tick. Each account's steps in the chain are first those that open it, and then those of
+/// its book.
 pub fn every_image_is_at_one_place<P: ImageParts, B: Board>()
     ensures { (since tick ended accounts : ℕ) (first : ByAccount P.Contents) (board : B) (chain : List P.Step)
-        (before after : ℕ → P.State) (user : ℕ → P.User) (book : ℕ → List P.Entry)
+        (early own : ℕ → List (ℕ × P.Step)) (before after : ℕ → P.State) (user : ℕ → P.User)
+        (book : ℕ → List P.Entry)
         → StandsSince P.meaning.account P.meaning.does P.shows since first tick ended (B.disk board) chain
         → ((account : ℕ) → account < accounts
-        → BookStands P.meaning (before account) (after account) (owned P.meaning account chain) (book account))
+        → BookStands P.meaning (before account) (after account) (own account) (book account))
         → ((account : ℕ) → account < accounts
-        → IsStateOf P.meaning (before account) (first account) (user account))
+        → owned P.meaning account chain ≡ early account ++ own account)
+        → ((account : ℕ) → account < accounts
+        → Opens P.meaning (before account) (steps_of (early account)) (first account) (user account))
         → AreBooksClean P.meaning P.shows since (B.disk board) accounts user book
         → length chain < 2 ^ 64
         → (image : Image) → (B.disk board).left_since tick image
