@@ -1,5 +1,5 @@
 -- What stands goes on by a step, where settling may undo one that failed.
-use Rattle.std.proofs.Common.{◌≡◌, inl, inr, ⊎_elim, ℕ, ◌+◌, ◌≤◌, List, [], ◌∷◌, ◌++◌, take, length, refl, sym, ap, ◌∙◌, subst, arith}
+use Rattle.std.proofs.Common.{inl, inr, ⊎_elim, ℕ, ◌+◌, ◌≤◌, List, [], ◌∷◌, ◌++◌, take, length, refl, sym, subst, arith}
 use Rattle.std.proofs.lemmas.List.{take-append-le}
 use Rattle.board_model.specs.Disk.{Image, Disk, Leaves, Follows}
 use Rattle.board_model.proofs.Effects.{leaves_weaker, follows_weaker, leaves_on, follows_then}
