@@ -12,4 +12,4 @@ mod schedule;
 
 pub use laws::{printed_tokens_are_read, strings_are_as_serde_json_writes_them};
 pub use line::{Field, LineFault, parse_line};
-pub use reply::{fault_text, reply_text};
+pub use reply::{fault_text, is_plain_name, reply_text};

@@ -148,8 +148,8 @@ fn are_plain(bytes: &[u8]) -> bool
     bytes.iter().all(|byte| byte.is_ascii_lowercase() || byte.is_ascii_digit() || *byte == b'.')
 }
 
-// Whether a name is as short and plain as each record's.
-fn is_plain_name(name: &str) -> bool
+/// Whether a name is as short and plain as each record's: at most 166 bytes a to z, 0 to 9 and full stops.
+pub fn is_plain_name(name: &str) -> bool
     ensures { result ≡ is_plain_name name.now }
 {
     name.len() <= 166 && are_plain(name.as_bytes())
