@@ -3,7 +3,6 @@ use Rattle.std.proofs.Common.{◌≡◌, ℕ, ◌+◌, ◌%◌, ◌^◌, Bool, t
 use Rattle.std.proofs.lemmas.List.{length-append}
 use Rattle.std.specs.Prelude.{◌==◌, if◌then◌else◌, IsSomeAnd}
 use Rattle.std.specs.List.{AllByRecursion}
-use Rattle.home_image.specs.Settled.{BookStands}
 use Rattle.home_image.proofs.BookLemmas.{stands-turn}
 use Rattle.pw_types.specs.declared.era.Era.{Era}
 use Rattle.share_api.specs.Places.{place_after}
@@ -43,7 +42,7 @@ account_ready rules ready device lock first now start state own share book place
     ∙ ap (λ (s : SeatView Step). s.caller) stands.same in
     subst (λ (s : ShareView). ready (seen_of s).owner (seen_of s).lost state) (sym made)
     (subst (λ caller. ready (owner_at device caller) device.lost state) (sym caller_is)
-    (stands.stays_ready (owner_at device stands.start.seat.caller) device.lost of_start.2.1))
+    (stands.stays_ready (owner_at device stands.start.seat.caller) device.lost of_start.2))
 
 -- The account stands with the turn's entry: its seat knows the turn's steps behind those that it knew.
 pub account_turn : {C D U T X : Type 0} (rules_at : Era → Rules C D U T X) (ready : Readiness X) (era : Era)

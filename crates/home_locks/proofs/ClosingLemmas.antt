@@ -1,15 +1,14 @@
 -- One account more is closed.
 use Rattle.std.proofs.Common.{◌≡◌, ℕ, List, [], ◌∷◌, ◌++◌, map, Option, Some, None, sym, ap, ◌∙◌, subst, append_assoc}
 use Rattle.std.proofs.lemmas.List.{map-append}
-use Rattle.home_image.specs.Settled.{BookStands}
 use Rattle.home_image.proofs.ListLemmas.{all-both}
 use Rattle.pw_types.specs.declared.era.Era.{Era}
 use Rattle.share_api.specs.declared.step.Step.{Step}
 use Rattle.turn_lock.specs.Seats.{SeatView, LockId, Recalls}
 use Rattle.platform_lock.specs.Seats.{AccountView}
-use Rattle.home_locks.specs.Meanings.{Rules, client_of, meaning_of}
-use Rattle.home_locks.specs.Accounts.{AccountStands, Readiness}
-use Rattle.home_locks.specs.Closing.{IsWhole, End, Closes, KnowsEnds, JoinsOn, known_of, account_at}
+use Rattle.home_locks.specs.Meanings.{Rules, client_of}
+use Rattle.home_locks.specs.Accounts.{AccountStands, Readiness, Started, started_at}
+use Rattle.home_locks.specs.Closing.{IsWhole, End, EndStands, Closes, KnowsEnds, JoinsOn, known_of, started_of, account_at}
 use Rattle.home_locks.specs.declared.account.Entry.{Entry}
 use Rattle.home_locks.proofs.AccountLemmas.{one_value}
 
@@ -68,7 +67,7 @@ own_of_shared rules ready era opened shared lock first now client start after bo
 
 -- one account more, behind the others
 pub closes_more : {C D U T X : Type 0} (rules_at : Era → Rules C D U T X) (ready : Readiness X) (era opened : Era)
-    (shared lock : LockId) (accounts : List ℕ) (clients : List (SeatView (Entry T))) (starts : List X) (old mid new : List (List (Entry T)))
+    (shared lock : LockId) (accounts : List ℕ) (clients : List (SeatView (Entry T))) (starts : List (Started X)) (old mid new : List (List (Entry T)))
     (first : Option (SeatView Step)) (first_now now : Option AccountView) (client : SeatView (Entry T)) (own : AccountView)
     (given whole : SeatView Step) (start after : X) (book : List (Entry T))
     → Closes (rules_at era) shared accounts clients starts old mid first
@@ -80,20 +79,23 @@ pub closes_more : {C D U T X : Type 0} (rules_at : Era → Rules C D U T X) (rea
     → new ≡ mid ++ book ∷ []
     → JoinsOn first given whole
     → Closes (rules_at era) shared (accounts ++ account_at first_now ∷ []) (clients ++ client ∷ [])
-    (starts ++ start ∷ []) old new (Some whole)
+    (starts ++ started_at first_now start ∷ []) old new (Some whole)
 closes_more {C} {D} {U} {T} {X} rules_at ready era opened shared lock accounts clients starts old mid new first first_now now client
     own given whole start after book closes is_whole stood recalls now_is given_is new_is joins =
     let rules = rules_at era in
     let stands = subst (λ e. AccountStands (rules_at e) ready first_now start now after book) is_whole.era_is stood in
-    let end : End T X = record { seat = own.seat; client = client; start = start; after = after; book = book } in
+    let end : End T X = record {
+      seat = own.seat;
+      client = client;
+      early = stands.start.seat.own;
+      own = stands.own;
+      start = start;
+      after = after;
+      book = book;
+    } in
     let seat_is : stands.seat ≡ own = one_value stands.seat own now stands.seat_is now_is in
     let own_is : own.seat ≡ record is_whole.start.seat { own = own.seat.own } =
     own_seat_is rules ready first_now now start after book is_whole.start own stands is_whole.start_is now_is in
-    let start_is : stands.start ≡ is_whole.start =
-    one_value stands.start is_whole.start first_now stands.start_is is_whole.start_is in
-    let steps_are : stands.own ≡ own.seat.own =
-    sym (ap (λ xs. xs ++ stands.own) (ap (λ (o : AccountView). o.seat.own) start_is ∙ is_whole.none))
-    ∙ sym stands.own_is ∙ ap (λ (o : AccountView). o.seat.own) seat_is in
     record {
       ends = closes.ends ++ end ∷ [];
       accounts_are =
@@ -103,16 +105,20 @@ closes_more {C} {D} {U} {T} {X} rules_at ready era opened shared lock accounts c
           ∙ sym (map-append (λ (e : End T X). e.seat.caller) closes.ends (end ∷ []));
       clients_are = ap (λ cs. cs ++ client ∷ []) closes.clients_are
           ∙ sym (map-append (λ (e : End T X). e.client) closes.ends (end ∷ []));
-      starts_are = ap (λ xs. xs ++ start ∷ []) closes.starts_are
-          ∙ sym (map-append (λ (e : End T X). e.start) closes.ends (end ∷ []));
+      starts_are = ap (λ xs. xs ++ started_at first_now start ∷ []) closes.starts_are
+          ∙ ap (λ (o : Option AccountView). map (λ (e : End T X). started_of e) closes.ends ++ started_at o start ∷ [])
+          stands.start_is
+          ∙ sym (map-append (λ (e : End T X). started_of e) closes.ends (end ∷ []));
       books_are = new_is ∙ ap (λ bs. bs ++ book ∷ []) closes.books_are
           ∙ append_assoc old (map (λ (e : End T X). e.book) closes.ends) (book ∷ [])
           ∙ ap (λ bs. old ++ bs) (sym (map-append (λ (e : End T X). e.book) closes.ends (end ∷ [])));
-      stand = all-both (λ e. BookStands (meaning_of rules) e.start e.after e.seat.own e.book) closes.ends (end ∷ [])
-          closes.stand (
-            subst (λ xs. BookStands (meaning_of rules) start after xs book) steps_are stands.book_stands,
-            tt,
-          );
+      stand = all-both (EndStands rules) closes.ends (end ∷ []) closes.stand (
+        record {
+          seat_is = sym (ap (λ (o : AccountView). o.seat.own) seat_is) ∙ stands.own_is;
+          book_stands = stands.book_stands;
+        },
+        tt,
+      );
       recalled = all-both (λ e. Recalls client_of e.book e.client) closes.ends (end ∷ []) closes.recalled (recalls, tt);
       knows = knows_more shared closes.ends end first whole
           (ap (λ s. s.lock) own_is ∙ is_whole.start_of) (ap (λ s. s.joined) own_is ∙ is_whole.joined)
@@ -122,22 +128,22 @@ closes_more {C} {D} {U} {T} {X} rules_at ready era opened shared lock accounts c
 
 -- the lists of all parts are those of the others with the last
 pub closes_parts : {P C D U T X : Type 0} (rules : Rules C D U T X) (shared : LockId)
-    (first_of : P → Option AccountView) (clients_of : P → SeatView (Entry T)) (state_of : P → X)
+    (first_of : P → Option AccountView) (clients_of : P → SeatView (Entry T)) (started : P → Started X)
     (all others : List P) (part : P) (old new : List (List (Entry T))) (seat : Option (SeatView Step))
     → all ≡ others ++ part ∷ []
     → Closes rules shared (map (λ p. account_at (first_of p)) others ++ account_at (first_of part) ∷ [])
-    (map clients_of others ++ clients_of part ∷ []) (map state_of others ++ state_of part ∷ []) old new seat
-    → Closes rules shared (map (λ p. account_at (first_of p)) all) (map clients_of all) (map state_of all) old new seat
-closes_parts rules shared first_of clients_of state_of all others part old new seat is closes =
+    (map clients_of others ++ clients_of part ∷ []) (map started others ++ started part ∷ []) old new seat
+    → Closes rules shared (map (λ p. account_at (first_of p)) all) (map clients_of all) (map started all) old new seat
+closes_parts rules shared first_of clients_of started all others part old new seat is closes =
     let both = others ++ part ∷ [] in
     subst (λ parts. Closes rules shared (map (λ p. account_at (first_of p)) parts) (map clients_of parts)
-    (map state_of parts) old new seat)
+    (map started parts) old new seat)
     (sym is)
     (subst (λ xs. Closes rules shared (map (λ p. account_at (first_of p)) both) (map clients_of both) xs old new seat)
-    (sym (map-append state_of others (part ∷ [])))
+    (sym (map-append started others (part ∷ [])))
     (subst (λ cs. Closes rules shared (map (λ p. account_at (first_of p)) both) cs
-    (map state_of others ++ state_of part ∷ []) old new seat)
+    (map started others ++ started part ∷ []) old new seat)
     (sym (map-append clients_of others (part ∷ [])))
     (subst (λ ns. Closes rules shared ns (map clients_of others ++ clients_of part ∷ [])
-    (map state_of others ++ state_of part ∷ []) old new seat)
+    (map started others ++ started part ∷ []) old new seat)
     (sym (map-append (λ p. account_at (first_of p)) others (part ∷ []))) closes)))

@@ -2,7 +2,6 @@
 use Rattle.std.proofs.Common.{◌≡◌, ℕ, zero, suc, ◌+◌, ◌<◌, ◌^◌, List, [], ◌∷◌, ◌++◌, map, length, Option, Some, refl, sym, ap, ◌∙◌, subst, append-nil, arith}
 use Rattle.std.specs.List.{AllByRecursion, range_with_len}
 use Rattle.std.proofs.lemmas.List.Elements.{recursion_from_All}
-use Rattle.home_image.specs.Settled.{BookStands}
 use Rattle.home_image.proofs.ListLemmas.{head_or, rest_of}
 use Rattle.home_image.proofs.PlaceLemmas.{at-led}
 use Rattle.home_image.proofs.EndLemmas.{ends-led}
@@ -14,7 +13,8 @@ use Rattle.turn_lock.specs.Seats.{SeatView, LockId, HasEachNumber, Recalls, numb
 use Rattle.turn_lock.proofs.Counts.{count_of-range_with_len}
 use Rattle.platform_lock.specs.Devices.{account_of}
 use Rattle.home_locks.specs.Meanings.{Rules, client_of, meaning_of}
-use Rattle.home_locks.specs.Closing.{End, Closes, KnowsEnds, AreRecalled, known_of}
+use Rattle.home_locks.specs.Accounts.{Started}
+use Rattle.home_locks.specs.Closing.{End, EndStands, Closes, KnowsEnds, AreRecalled, known_of, started_of}
 use Rattle.home_locks.specs.Settled.{AreOpened, AreBooksClean, AreAt, HaveEnded, Settles}
 use Rattle.home_locks.specs.declared.account.Entry.{Entry}
 
@@ -60,15 +60,14 @@ module _ {T X : Type 0} where
 
 module _ {C D U T X : Type 0} (rules : Rules C D U T X) (chain : List Step) (images : ByAccount C → Type 0)
     (user : ℕ → U) (first : ByAccount C) (small : length chain < 2 ^ 64) where
-  -- the account's book stands with its steps in the chain
-  stands_in_chain : (account : ℕ) (end : End T X)
+  -- the account's steps in the chain are those that it had made at first, and then those of its book
+  parts_in_chain : (account : ℕ) (end : End T X)
       → end.seat.caller ≡ account
       → entries_of account_of end.seat.caller chain ≡ end.seat.own
-      → BookStands (meaning_of rules) end.start end.after end.seat.own end.book
-      → BookStands (meaning_of rules) end.start end.after (entries_of account_of account chain) end.book
-  stands_in_chain account end is own stands =
-      subst (λ (xs : List (ℕ × Step)). BookStands (meaning_of rules) end.start end.after xs end.book)
-      (sym own ∙ ap (λ (a : ℕ). entries_of account_of a chain) is) stands
+      → EndStands rules end
+      → entries_of account_of account chain ≡ end.early ++ end.own
+  parts_in_chain account end is own stands =
+      sym (ap (λ (a : ℕ). entries_of account_of a chain) is) ∙ own ∙ stands.seat_is
 
   -- an image is at one place of the books from this account on
   ends_at : (n : ℕ) (image : ByAccount C)
@@ -76,17 +75,17 @@ module _ {C D U T X : Type 0} (rules : Rules C D U T X) (chain : List Step) (ima
       → (ends : List (End T X)) (account more : ℕ)
       → map (λ end. end.seat.caller) ends ≡ range_with_len account more
       → AllByRecursion (λ end. entries_of account_of end.seat.caller chain ≡ end.seat.own) ends
-      → AllByRecursion (λ end. BookStands (meaning_of rules) end.start end.after end.seat.own end.book) ends
-      → AreOpened rules first user account (map (λ end. end.start) ends)
+      → AllByRecursion (EndStands rules) ends
+      → AreOpened rules first user account (map started_of ends)
       → AreBooksClean rules images user account (map (λ end. end.book) ends)
       → AreAt rules n user image account (map (λ end. end.book) ends)
   ends_at n image left [] account more are recalls stand opened clean = tt
   ends_at n image left (end ∷ ends) account zero are recalls stand opened clean = absurd (subst HasSome are tt)
   ends_at n image left (end ∷ ends) account (suc more) are recalls stand opened clean =
       let led = left.each account in (
-        at-led (meaning_of rules) n account chain end.start end.after (first account) (image account) led.seen
-            (user account) end.book
-            (stands_in_chain account end (ap (head_or 0) are) recalls.0 stand.0)
+        at-led (meaning_of rules) n account chain end.early end.own end.start end.after (first account) (image account)
+            led.seen (user account) end.book stand.0.book_stands
+            (parts_in_chain account end (ap (head_or 0) are) recalls.0 stand.0)
             opened.0 (clean.0 led.seen led.parts) small left.within led.led,
         ends_at n image left ends (account + 1) more (ap rest_of are) recalls.1 stand.1 opened.1 clean.1,
       )
@@ -97,8 +96,8 @@ module _ {C D U T X : Type 0} (rules : Rules C D U T X) (chain : List Step) (ima
       → (ends : List (End T X)) (account more : ℕ)
       → map (λ end. end.seat.caller) ends ≡ range_with_len account more
       → AllByRecursion (λ end. entries_of account_of end.seat.caller chain ≡ end.seat.own) ends
-      → AllByRecursion (λ end. BookStands (meaning_of rules) end.start end.after end.seat.own end.book) ends
-      → AreOpened rules first user account (map (λ end. end.start) ends)
+      → AllByRecursion (EndStands rules) ends
+      → AreOpened rules first user account (map started_of ends)
       → AreBooksClean rules images user account (map (λ end. end.book) ends)
       → HaveEnded rules (length chain) user now account (map (λ end. end.book) ends)
   ends_ended now here [] account more are recalls stand opened clean = tt
@@ -107,9 +106,9 @@ module _ {C D U T X : Type 0} (rules : Rules C D U T X) (chain : List Step) (ima
       let led = here account in (
         (
           end.after,
-          ends-led (meaning_of rules) account chain end.start end.after (first account) (now account) led.seen
-              (user account) end.book
-              (stands_in_chain account end (ap (head_or 0) are) recalls.0 stand.0)
+          ends-led (meaning_of rules) account chain end.early end.own end.start end.after (first account) (now account)
+              led.seen (user account) end.book stand.0.book_stands
+              (parts_in_chain account end (ap (head_or 0) are) recalls.0 stand.0)
               opened.0 (clean.0 led.seen led.parts) small led.led,
         ),
         ends_ended now here ends (account + 1) more (ap rest_of are) recalls.1 stand.1 opened.1 clean.1,
@@ -117,7 +116,7 @@ module _ {C D U T X : Type 0} (rules : Rules C D U T X) (chain : List Step) (ima
 
 -- the books of all accounts settle
 pub settles : {C D U T X : Type 0} (rules : Rules C D U T X) (shared : LockId) (accounts : List ℕ)
-    (clients : List (SeatView (Entry T))) (starts : List X) (old books : List (List (Entry T))) (seat : SeatView Step) (chain : List Step) (first now : ByAccount C)
+    (clients : List (SeatView (Entry T))) (starts : List (Started X)) (old books : List (List (Entry T))) (seat : SeatView Step) (chain : List Step) (first now : ByAccount C)
     (images : ByAccount C → Type 0)
     → Closes rules shared accounts clients starts old books (Some seat)
     → old ≡ []
@@ -158,7 +157,7 @@ recalled_ends [] recalled = tt
 recalled_ends (end ∷ ends) recalled = (recalled.0, recalled_ends ends recalled.1)
 
 pub recalled_books : {C D U T X : Type 0} (rules : Rules C D U T X) (shared : LockId) (accounts : List ℕ)
-    (clients : List (SeatView (Entry T))) (starts : List X) (old books : List (List (Entry T)))
+    (clients : List (SeatView (Entry T))) (starts : List (Started X)) (old books : List (List (Entry T)))
     (seat : Option (SeatView Step))
     → Closes rules shared accounts clients starts old books seat
     → old ≡ []

@@ -1,7 +1,8 @@
 -- What the value behind an account's lock is to its book.
-use Rattle.std.specs.Prelude.{◌≡◌, ℕ, ◌%◌, ◌^◌, List, [], ◌∷◌, ◌++◌, length, Option, Some, IsSomeAnd}
+use Rattle.std.specs.Prelude.{◌≡◌, ℕ, ◌%◌, ◌^◌, List, [], ◌∷◌, ◌++◌, length, Option, None, Some, IsSomeAnd}
 use Rattle.home_image.specs.Settled.{BookStands}
 use Rattle.share_api.specs.Contents.{Bytes}
+use Rattle.share_api.specs.Places.{steps_of}
 use Rattle.share_api.specs.declared.step.Step.{Step}
 use Rattle.turn_lock.specs.Seats.{SeatView, LockId}
 use Rattle.platform_lock.specs.Devices.{DeviceSeen, HasAccount, owner_at}
@@ -32,6 +33,16 @@ module _ {C D U T X : Type 0} (rules : Rules C D U T X) (ready : Readiness X) wh
     pub own_is : seat.seat.own ≡ start.seat.own ++ own
     pub book_stands : BookStands (meaning_of rules) before after own book
     pub stays_ready : StaysReady ready before after
+
+-- An account when its lock is made: its state, and the device steps that it has made by then, which open it.
+pub record Started (X : Type 0) : Type 0 where
+  pub state : X
+  pub steps : List Step
+
+-- the steps are those that the account's first seat knows
+abbrev pub started_at : {X : Type 0} → Option AccountView → X → Started X
+started_at None state = record { state = state; steps = [] }
+started_at (Some own) state = record { state = state; steps = steps_of own.seat.own }
 
 -- The account was given a seat of this lock, whose number is an account's of the platform, and a state with which a
 -- turn of this account can begin.

@@ -3,19 +3,20 @@ use Rattle.std.specs.Prelude.{◌≤◌, ◌<◌, ◌+◌, ◌^◌, ℕ, List, [
 use Rattle.std.specs.List.{AllByRecursion}
 use Rattle.home_image.specs.Book.{AreClean}
 use Rattle.home_image.specs.Place.{At}
-use Rattle.home_image.specs.Settled.{IsStateOf, BookEnds}
+use Rattle.home_image.specs.Settled.{Opens, BookEnds}
 use Rattle.image_path.specs.Paths.{IsPart}
 use Rattle.image_path.specs.Showing.{ByAccount}
 use Rattle.share_api.specs.declared.step.Step.{Step}
 use Rattle.home_locks.specs.Meanings.{Rules, meaning_of}
+use Rattle.home_locks.specs.Accounts.{Started}
 use Rattle.home_locks.specs.declared.account.Entry.{Entry}
 
 module _ {C D U T X : Type 0} (rules : Rules C D U T X) where
-  -- the states are those of the users over the contents, from this account on
-  abbrev pub AreOpened : ByAccount C → (ℕ → U) → ℕ → List X → Type 0
+  -- the starts open the users over the contents, from this account on
+  abbrev pub AreOpened : ByAccount C → (ℕ → U) → ℕ → List (Started X) → Type 0
   AreOpened first user account [] = Unit {0}
   AreOpened first user account (start ∷ starts) =
-      IsStateOf (meaning_of rules) start (first account) (user account)
+      Opens (meaning_of rules) start.state start.steps (first account) (user account)
       × AreOpened first user (account + 1) starts
 
   -- no two inputs coincide that are recorded of an account's contents in images and of its book
@@ -41,10 +42,10 @@ module _ {C D U T X : Type 0} (rules : Rules C D U T X) where
       ((after : X) × BookEnds (meaning_of rules) n after (user account) book (now account))
       × HaveEnded n user now (account + 1) books
 
-  -- Of users whom the states at first were those of, over the contents at the opening, and of whose books no two
+  -- Of users whom the accounts' first steps open, over the contents before all steps, and of whose books no two
   -- recorded inputs coincide: each image is at one place of all books, and at the end each book is legal and holds
   -- all its changes. A place is a u64, so the chain is to have fewer steps than that.
-  pub record Settles (starts : List X) (first now : ByAccount C) (images : ByAccount C → Type 0)
+  pub record Settles (starts : List (Started X)) (first now : ByAccount C) (images : ByAccount C → Type 0)
       (chain : List Step) (books : List (List (Entry T))) : Type 0 where
     pub at_one_place : (user : ℕ → U)
         → AreOpened first user 0 starts

@@ -4,6 +4,7 @@ ghost use Rattle.std.specs.Prelude.{◌≡◌, ◌≤◌, ◌<◌, ◌+◌, List
 ghost use Rattle.std.specs.List.{range_with_len};
 ghost use Rattle.share_api.specs.declared.step.Step.{Step};
 ghost use Rattle.platform_lock.specs.Devices.{IsServed};
+ghost use Rattle.home_locks.specs.Accounts.{started_at};
 ghost use Rattle.home_locks.specs.Closing.{IsWhole, Closes, AreRecalled, account_at, JoinsOn};
 ghost use Rattle.home_locks.specs.Settled.{Settles};
 
@@ -55,7 +56,8 @@ fn close_all<K: AccountTurns>(
     ensures len { vec_len books.new ≡ vec_len books.old + length parts.items }
     ensures closes { Closes (K.rules (K.Platform.seen shared.now.first.device).era) shared.now.id
         (map (λ part. account_at part.lock.first.seat) parts.items) (map (λ part. part.seat) parts.items)
-        (map (λ part. part.lock.first.state) parts.items) books.old.items books.new.items result }
+        (map (λ part. started_at part.lock.first.seat part.lock.first.state) parts.items) books.old.items
+        books.new.items result }
 {
     let Some(part) = parts.pop() else {
         return None;
@@ -69,6 +71,8 @@ fn close_all<K: AccountTurns>(
 }
 
 /// Closes all locks. `room` is an empty list with room for all books, so it takes no memory.
+///
+/// The steps that an account's first seat knew are those that opened it. They are no steps of its book.
 pub fn settle<K: AccountTurns>(
     shared: Shared<K::Platform>,
     parts: Vec<Part<K>>,
@@ -85,8 +89,9 @@ pub fn settle<K: AccountTurns>(
     ensures settled { (chain : List Step)
         × IsServed K.Platform.seen K.Platform.stands shared.first.device result.device chain
         × (K.opened shared.first.device → Settles (K.rules (K.Platform.seen shared.first.device).era)
-        (map (λ part. part.lock.first.state) parts.items) (K.contents shared.first.device)
-        (K.contents result.device) (K.images shared.first.device result.device) chain result.books.items) }
+        (map (λ part. started_at part.lock.first.seat part.lock.first.state) parts.items)
+        (K.contents shared.first.device) (K.contents result.device)
+        (K.images shared.first.device result.device) chain result.books.items) }
     // What the joined seats know of each client's turns are that client's entries, at their places.
     ensures own { AreRecalled (map (λ part. part.seat) parts.items) result.books.items }
 {

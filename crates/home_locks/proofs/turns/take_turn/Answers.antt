@@ -5,16 +5,18 @@ use Rattle.home_locks.proofs.AccountLemmas.{account_ready, account_turn, adds_tu
 use Rattle.home_locks.proofs.turns.take_turn.Goals as goal
 
 -- The state that the account was left with is one that a turn can begin with.
-pub act-done-requires-clause-ready : goal.act-done-requires-clause-ready
-act-done-requires-clause-ready g c =
+pub act-done-requires : goal.act-done-requires
+act-done-requires g c =
     let first = c.args.lock.now.first in
     let stands = subst
     (λ value. AccountStands (g.K.AccountTurns.rules first.era) g.K.AccountTurns.ready first.seat first.state value.seat
     value.state c.enter-held.result.before)
     (sym c.value-account.ensures.value) c.enter-held.ensures.stands in
-    account_ready (g.K.AccountTurns.rules first.era) g.K.AccountTurns.ready
-    (g.K.Platform.Device.seen c.args.shared.now.first.device) c.args.shared.now.id _ _ _ _ c.unwrap-own.result _ _
-    c.requires.shared stands (sym c.take.ensures.value ∙ c.unwrap-own.ensures) c.new-share.ensures.value
+    record {
+      ready = account_ready (g.K.AccountTurns.rules first.era) g.K.AccountTurns.ready
+          (g.K.Platform.Device.seen c.args.shared.now.first.device) c.args.shared.now.id _ _ _ _ c.unwrap-own.result _ _
+          c.requires.shared stands (sym c.take.ensures.value ∙ c.unwrap-own.ensures) c.new-share.ensures.value;
+    }
 
 pub leave-seat-requires-clause-stands : goal.leave-seat-requires-clause-stands
 leave-seat-requires-clause-stands g c =
