@@ -1,5 +1,5 @@
 -- Each request that is read from a line is in form.
-use Rattle.std.proofs.Common.{◌≡◌, ℕ, Bool, true, false, List, length, codes, Option, None, Some, Result, Ok, Err, refl, sym, ap, ◌∙◌, absurd, subst, true≢false}
+use Rattle.std.proofs.Common.{◌≡◌, ℕ, Bool, true, false, List, length, codes, Option, None, Some, Result, Ok, Err, refl, sym, ap, ◌∙◌, subst, true≢false}
 use Rattle.std.proofs.Math.Option.{some-injective}
 use Rattle.std.proofs.lemmas.Bool.{and_parts, leb-true}
 use Rattle.std.specs.Prelude.{nat_le, IsTrue, IfOk, if◌then◌else◌, is_some}

@@ -1,3 +1,4 @@
 pub mod Joining
+pub mod OpeningParts
 pub mod SecretLaws
 pub mod BookSecrets

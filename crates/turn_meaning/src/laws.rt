@@ -1,12 +1,16 @@
 //! The laws that join a turn to all accounts. Each function has an empty body: its contract is the law.
 
-ghost use Rattle.std.specs.Prelude.{◌≡◌};
+ghost use Rattle.std.specs.Prelude.{◌≡◌, ℕ, List, Result};
 ghost use Rattle.account_machine.specs.declared.entry.Entry.{Entry};
 ghost use Rattle.home_locks.specs.Turns.{ActStands};
+ghost use Rattle.random_values.specs.Stretches.{Place};
 ghost use Rattle.share_api.specs.Seen.{ShareSeen};
+ghost use Rattle.stored_home.specs.declared.fault.StoreFault.{StoreFault};
+ghost use Rattle.user_opening.specs.Opens.{OpensUser};
 ghost use Rattle.user_state.specs.declared.state.UserState.{UserState};
 ghost use Rattle.user_turn.specs.Acts.{IsAct};
 ghost use Rattle.turn_meaning.specs.Meanings.{user_rules, entry_of};
+ghost use Rattle.turn_meaning.specs.Openings.{OpenStands};
 ghost use Rattle.turn_meaning.specs.Secrets.{SecretsLaw, CleanLaw};
 ghost use Rattle.turn_meaning.specs.declared.taken.TurnTaken.{TurnTaken as Taken};
 
@@ -15,6 +19,14 @@ pub fn act_stands()
     ensures { (old new : ShareSeen) (before after : UserState) (taken : Taken)
         → IsAct old new before after (entry_of taken)
         → ActStands (user_rules old.era) before after taken old new }
+{}
+
+/// What opening an account promises over any share is what the composition needs of an account's first steps.
+pub fn opened_user_stands()
+    ensures { (old new : ShareSeen) (account : List ℕ) (cost moment : ℕ) (generator : Place)
+        (result : Result UserState StoreFault)
+        → OpensUser old new account cost moment generator result
+        → OpenStands old new account moment result }
 {}
 
 /// No secret comes to a user but with a request. So where no two inputs coincide that are recorded of the user at

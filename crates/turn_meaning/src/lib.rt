@@ -4,5 +4,5 @@
 mod laws;
 mod taken;
 
-pub use laws::{act_stands, secrets_come_with_requests};
+pub use laws::{act_stands, opened_user_stands, secrets_come_with_requests};
 pub use taken::TurnTaken;
