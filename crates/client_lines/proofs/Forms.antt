@@ -1,6 +1,5 @@
 -- Each request that is read from a line is in form.
 use Rattle.std.proofs.Common.{◌≡◌, ℕ, Bool, true, false, List, length, codes, Option, None, Some, Result, Ok, Err, refl, sym, ap, ◌∙◌, subst, true≢false}
-use Rattle.std.proofs.Math.Option.{some-injective}
 use Rattle.std.proofs.lemmas.Bool.{and_parts, leb-true}
 use Rattle.std.specs.Prelude.{nat_le, IsTrue, IfOk, if◌then◌else◌, is_some}
 use Rattle.serde_json.specs.Data.{Data}
@@ -35,6 +34,10 @@ either : (b : Bool) (x y : Result Request LineFault) → AreFormed x → AreForm
 either true x y is other = is
 either false x y is other = other
 
+abbrev value_or : {A : Type 0} → A → Option A → A
+value_or other None = other
+value_or other (Some a) = a
+
 abbrev has_value : {A : Type 0} → Option A → Bool
 has_value None = false
 has_value (Some a) = true
@@ -45,7 +48,7 @@ in_form form None t is = absurd (true≢false (sym (ap has_value is)))
 in_form form (Some given) t is = by_form (form given) refl is
   where
     by_form : (b : Bool) → form given ≡ b → (if b then Some given else None) ≡ Some t → IsTrue (form t)
-    by_form true at same = subst (λ text. IsTrue (form text)) (some-injective given t same) at
+    by_form true at same = subst (λ text. IsTrue (form text)) (ap (value_or given) same) at
     by_form false at same = absurd (true≢false (sym (ap has_value same)))
 
 label_form : (json : Data) (label : List ℕ) → label_in json ≡ Some label → IsTrue (is_factor_label label)
