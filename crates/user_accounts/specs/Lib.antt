@@ -1,0 +1,6 @@
+pub mod Asked
+pub mod Coding
+pub mod Ready
+pub mod Told
+pub mod Parts
+pub mod Recovered
