@@ -1,6 +1,6 @@
 -- A client's real ends as they are handed out.
 use Rattle.std.specs.Prelude.{◌≡◌, ℕ}
-use Rattle.home_daemon.specs.declared.desk.Client.{Client}
+use Rattle.run_desk.specs.declared.desk.Client.{Client}
 use Rattle.cryptohome_cli.specs.declared.real_desk.Input.{Input}
 use Rattle.cryptohome_cli.specs.declared.real_desk.Output.{Output}
 use Rattle.cryptohome_cli.specs.declared.real_desk.SystemClock.{SystemClock}

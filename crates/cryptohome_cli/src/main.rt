@@ -4,8 +4,9 @@
 
 mod real_desk;
 
-use daemon_run::{Ending, run};
+use daemon_run::run;
 use real_desk::RealDesk;
+use run_ending::Ending;
 use std::io::ErrorKind;
 use std::process::ExitCode;
 use std::{env, io};

@@ -4,8 +4,8 @@ ghost use Rattle.std.specs.Prelude.{◌≡◌, ◌≤◌, None, IfOk, length};
 
 use board_model::{BoardFault, FileBoard};
 use fault_count::{Failed, FaultCount};
-use home_daemon::{Client, Desk, DeskFault};
 use request_loop::{Clock, Sink, Source};
+use run_desk::{Client, Desk, DeskFault};
 use std::alloc::Global;
 use std::fs::File;
 use std::io::{self, ErrorKind, Read, StdinLock, Write};

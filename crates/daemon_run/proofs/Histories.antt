@@ -12,21 +12,21 @@ use Rattle.factor_machine.specs.Legal.{IsLegal, opened}
 use Rattle.home_names.specs.Names.{is_account_name, stash_name}
 use Rattle.request_loop.specs.declared.serve.LoopEnd.{LoopEnd}
 use Rattle.request_loop.specs.declared.serve.LoopEnd.TheVariants as loop_ends
+use Rattle.run_desk.specs.declared.desk.Client.{Client}
+use Rattle.run_desk.specs.Desk.{DeskSeen, HandsOut}
+use Rattle.run_ending.specs.declared.ending.Ending.{Ending}
+use Rattle.run_ending.specs.declared.ending.Ending.TheVariants as endings
+use Rattle.run_ending.specs.Ending.{ending_from}
 use Rattle.home_daemon.specs.declared.account.Account.{Account}
 use Rattle.home_daemon.specs.declared.book.Book.{Book}
-use Rattle.home_daemon.specs.declared.desk.Client.{Client}
 use Rattle.home_daemon.specs.Stash.{Has, HoldsUser, PutsRecord, Lasts}
 use Rattle.home_daemon.specs.Account.{Continues, Opens, Survives, StaysHeld, Explains, storage_faults, name_of, user_of, entries_of}
-use Rattle.home_daemon.specs.Desk.{DeskSeen, HandsOut}
 use Rattle.home_daemon.specs.Output.{IsOutput}
 use Rattle.pw_types.specs.Moment.{cut_moment}
 use Rattle.home_daemon.proofs.Outputs.{output_owns}
 use Rattle.home_daemon.proofs.Puts.{not_temporary}
 use Rattle.home_daemon.proofs.Surviving.{survives_after}
-use Rattle.daemon_run.specs.declared.outcome.Ending.{Ending}
-use Rattle.daemon_run.specs.declared.outcome.Ending.TheVariants as endings
 use Rattle.daemon_run.specs.Words.{alone}
-use Rattle.daemon_run.specs.Ending.{ending_from}
 use Rattle.daemon_run.specs.Outside.{Outside}
 use Rattle.daemon_run.specs.Left.{Left}
 use Rattle.daemon_run.specs.Served.{StaysUnserved, IsServed}

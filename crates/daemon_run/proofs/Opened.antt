@@ -2,9 +2,10 @@
 use Rattle.std.proofs.Common.{◌≡◌, inl, inr, ℕ, List, [], Option, None, Some, refl, sym, subst, arith, rules}
 use Rattle.std.specs.Prelude.{MatchOption}
 use Rattle.board_model.specs.Disk.{Unchanged}
+use Rattle.run_desk.specs.declared.desk.DeskFault.TheVariants as desk_faults
+use Rattle.run_desk.specs.Desk.{DeskSeen, KeepsBoard, HandsOut}
+use Rattle.run_desk.proofs.Handing.{board_still, clients_still}
 use Rattle.home_daemon.specs.declared.account.OpenFault.TheVariants as open_faults
-use Rattle.home_daemon.specs.declared.desk.DeskFault.TheVariants as desk_faults
-use Rattle.home_daemon.specs.Desk.{DeskSeen, KeepsBoard, HandsOut}
 use Rattle.daemon_run.specs.declared.serve.Unopened.{Unopened}
 use Rattle.daemon_run.specs.declared.serve.Unopened.TheVariants.{NoBoard, Refused}
 use Rattle.daemon_run.specs.Words.{Asked, alone}
@@ -14,13 +15,6 @@ use Rattle.daemon_run.specs.Opening.{FailsToOpen, ending_unopened, board_unopene
 use Rattle.daemon_run.specs.Run.{AsksNothing, Unserved, Did}
 
 module _ {B S K C : Type 0} (desk : DeskSeen B S K C) where
-  -- a desk that was asked for nothing has what it had
-  pub board_still : KeepsBoard desk desk
-  board_still = λ dir board. (λ has. has, λ has. has)
-
-  pub clients_still : HandsOut desk desk []
-  clients_still = λ rest. (λ has. has, λ has. has)
-
   -- words that ask nothing ask the desk for nothing
   pub asks_nothing : (left_over : Left B S K C) → left_over.board ≡ None → left_over.clients ≡ [] → left_over.books ≡ []
       → AsksNothing desk desk left_over
@@ -28,8 +22,8 @@ module _ {B S K C : Type 0} (desk : DeskSeen B S K C) where
     no_board = board;
     no_client = clients;
     no_book = books;
-    board_kept = board_still;
-    clients_kept = clients_still;
+    board_kept = board_still desk;
+    clients_kept = clients_still desk;
     quiet = refl;
   }
 

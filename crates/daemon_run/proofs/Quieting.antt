@@ -8,13 +8,13 @@ use Rattle.request_loop.specs.Exchange.{Exchange}
 use Rattle.request_loop.specs.Served.{TakesLines}
 use Rattle.request_loop.specs.declared.serve.LoopEnd.{LoopEnd}
 use Rattle.request_loop.specs.declared.serve.LoopEnd.TheVariants as loop_ends
+use Rattle.run_desk.specs.declared.desk.Client.{Client}
+use Rattle.run_desk.specs.Desk.{DeskSeen}
+use Rattle.run_ending.specs.declared.ending.Ending.{Ending}
+use Rattle.run_ending.specs.declared.ending.Ending.TheVariants.{Served, BadWords, BoardFault, Damaged, NoMemory, ClientFault, TooMany, InputLimit, NoEntropy}
+use Rattle.run_ending.specs.Ending.{status_of, is_fault, is_limit, is_starved, least, or_fault, EndsWell, IsUnasked, Shows}
 use Rattle.home_daemon.specs.declared.book.Book.{Book}
-use Rattle.home_daemon.specs.declared.desk.Client.{Client}
-use Rattle.home_daemon.specs.Desk.{DeskSeen}
-use Rattle.daemon_run.specs.declared.outcome.Ending.{Ending}
-use Rattle.daemon_run.specs.declared.outcome.Ending.TheVariants.{Served, BadWords, BoardFault, Damaged, NoMemory, ClientFault, TooMany, InputLimit, NoEntropy}
 use Rattle.daemon_run.specs.Words.{Asked}
-use Rattle.daemon_run.specs.Ending.{status_of, is_fault, is_limit, is_starved, least, or_fault, EndsWell, IsUnasked, Shows}
 use Rattle.daemon_run.specs.Outside.{Outside}
 use Rattle.daemon_run.specs.Left.{Left}
 use Rattle.daemon_run.specs.Served.{ServesLines}

@@ -1,8 +1,8 @@
 -- What is left of a run.
 use Rattle.std.specs.Prelude.{ℕ, List, [], Option}
+use Rattle.run_desk.specs.declared.desk.Client.{Client}
 use Rattle.home_daemon.specs.declared.account.Account.{Account}
 use Rattle.home_daemon.specs.declared.book.Book.{Book}
-use Rattle.home_daemon.specs.declared.desk.Client.{Client}
 use Rattle.home_daemon.specs.Account.{name_of, entries_of}
 
 pub record Left (B S K C : Type 0) : Type 0 where

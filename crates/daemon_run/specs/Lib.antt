@@ -1,5 +1,4 @@
 pub mod Words
-pub mod Ending
 pub mod Outside
 pub mod Left
 pub mod Served

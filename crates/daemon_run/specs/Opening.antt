@@ -1,16 +1,16 @@
 -- How an account couldn't be opened.
 use Rattle.std.specs.Prelude.{◌≡◌, ℕ, List, Option, None, Some}
 use Rattle.fault_count.specs.Causes.{HasCause}
+use Rattle.run_desk.specs.declared.desk.DeskFault.{DeskFault}
+use Rattle.run_desk.specs.declared.desk.DeskFault.TheVariants as desk_faults
+use Rattle.run_desk.specs.Desk.{DeskSeen, KeepsBoard}
+use Rattle.run_ending.specs.declared.ending.Ending.{Ending}
+use Rattle.run_ending.specs.declared.ending.Ending.TheVariants.{BoardFault, Damaged, NoMemory}
 use Rattle.home_daemon.specs.declared.account.OpenFault.{OpenFault}
 use Rattle.home_daemon.specs.declared.account.OpenFault.TheVariants as open_faults
-use Rattle.home_daemon.specs.declared.desk.DeskFault.{DeskFault}
-use Rattle.home_daemon.specs.declared.desk.DeskFault.TheVariants as desk_faults
 use Rattle.home_daemon.specs.Account.{Refuses}
-use Rattle.home_daemon.specs.Desk.{DeskSeen, KeepsBoard}
 use Rattle.daemon_run.specs.declared.serve.Unopened.{Unopened}
 use Rattle.daemon_run.specs.declared.serve.Unopened.TheVariants.{NoBoard, Refused}
-use Rattle.daemon_run.specs.declared.outcome.Ending.{Ending}
-use Rattle.daemon_run.specs.declared.outcome.Ending.TheVariants.{BoardFault, Damaged, NoMemory}
 use Rattle.daemon_run.specs.Outside.{Outside}
 
 -- how a run ends to which the desk gave no board

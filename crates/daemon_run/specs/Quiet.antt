@@ -2,8 +2,8 @@
 use Rattle.std.specs.Prelude.{◌≡◌, ◌⊎◌, ℕ, ◌+◌, ◌-◌, ◌^◌, ◌<◌, min, List, length, Contains, IsSomeAnd}
 use Rattle.std.specs.List.{AllZip}
 use Rattle.fault_count.specs.Causes.{Rose}
-use Rattle.home_daemon.specs.declared.desk.Client.{Client}
-use Rattle.home_daemon.specs.Desk.{DeskSeen, HandsOut}
+use Rattle.run_desk.specs.declared.desk.Client.{Client}
+use Rattle.run_desk.specs.Desk.{DeskSeen, HandsOut}
 use Rattle.home_daemon.specs.Home.{HoldsOutside}
 use Rattle.daemon_run.specs.Words.{Asked}
 use Rattle.daemon_run.specs.Outside.{Outside}

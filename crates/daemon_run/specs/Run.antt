@@ -12,18 +12,18 @@ use Rattle.factor_machine.specs.Legal.{IsLegal, opened}
 use Rattle.home_names.specs.Names.{stash_name}
 use Rattle.request_loop.specs.Exchange.{Exchange}
 use Rattle.request_loop.specs.declared.serve.LoopEnd.{LoopEnd}
+use Rattle.run_desk.specs.declared.desk.Client.{Client}
+use Rattle.run_desk.specs.Desk.{DeskSeen, KeepsBoard, HandsOut}
+use Rattle.run_ending.specs.declared.ending.Ending.{Ending}
+use Rattle.run_ending.specs.declared.ending.Ending.TheVariants.{Served, BadWords, BoardFault, Damaged, NoMemory, ClientFault, TooMany, InputLimit, NoEntropy}
+use Rattle.run_ending.specs.Ending.{ending_from}
 use Rattle.home_daemon.specs.declared.book.Book.{Book}
-use Rattle.home_daemon.specs.declared.desk.Client.{Client}
 use Rattle.home_daemon.specs.Stash.{Has, EachHas, Lasts}
 use Rattle.home_daemon.specs.Home.{NamesDamage}
 use Rattle.home_daemon.specs.Account.{StaysHeld, HasOk, Explains, storage_faults}
-use Rattle.home_daemon.specs.Desk.{DeskSeen, KeepsBoard, HandsOut}
 use Rattle.home_daemon.specs.Output.{Owned, IsOutput, own_entries}
 use Rattle.pw_types.specs.Moment.{cut_moment}
-use Rattle.daemon_run.specs.declared.outcome.Ending.{Ending}
-use Rattle.daemon_run.specs.declared.outcome.Ending.TheVariants.{Served, BadWords, BoardFault, Damaged, NoMemory, ClientFault, TooMany, InputLimit, NoEntropy}
 use Rattle.daemon_run.specs.Words.{Asked}
-use Rattle.daemon_run.specs.Ending.{ending_from}
 use Rattle.daemon_run.specs.Outside.{Outside}
 use Rattle.daemon_run.specs.Left.{Left, empty_book}
 use Rattle.daemon_run.specs.Served.{ServesLines}

@@ -6,13 +6,13 @@ use Rattle.request_loop.specs.Exchange.{Exchange}
 use Rattle.request_loop.specs.Served.{TakesLines, WritesReplies}
 use Rattle.request_loop.specs.declared.serve.LoopEnd.{LoopEnd}
 use Rattle.request_loop.specs.declared.serve.LoopEnd.TheVariants as ends
+use Rattle.run_desk.specs.declared.desk.Client.{Client}
+use Rattle.run_desk.specs.Desk.{DeskSeen, HandsOut}
+use Rattle.run_ending.specs.declared.ending.Ending.{Ending}
+use Rattle.run_ending.specs.declared.ending.Ending.TheVariants.{NoMemory, ClientFault}
+use Rattle.run_ending.specs.Ending.{ending_from}
 use Rattle.home_daemon.specs.declared.account.Account.{Account}
-use Rattle.home_daemon.specs.declared.desk.Client.{Client}
 use Rattle.home_daemon.specs.Answered.{Answered}
-use Rattle.home_daemon.specs.Desk.{DeskSeen, HandsOut}
-use Rattle.daemon_run.specs.declared.outcome.Ending.{Ending}
-use Rattle.daemon_run.specs.declared.outcome.Ending.TheVariants.{NoMemory, ClientFault}
-use Rattle.daemon_run.specs.Ending.{ending_from}
 use Rattle.daemon_run.specs.Outside.{Outside}
 use Rattle.daemon_run.specs.Left.{Left, book_of}
 

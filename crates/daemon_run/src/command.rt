@@ -2,20 +2,22 @@
 
 ghost use Rattle.std.specs.Prelude.{◌≡◌, ◌⊎◌, ◌≤◌, ◌<◌, ℕ, List, [], ◌∷◌, length, map, string_bytes, Option, None, Some, IsTrue, MatchOption, vec_capacity, vec_len};
 ghost use Rattle.home_names.specs.Names.{is_account_name};
-ghost use Rattle.daemon_run.specs.declared.outcome.Ending.{Ending as EndingSeen};
+ghost use Rattle.run_ending.specs.declared.ending.Ending.{Ending as EndingSeen};
+ghost use Rattle.run_ending.specs.Ending.{EndsWell, text_of, ending_from, IsUnasked, Shows};
 ghost use Rattle.daemon_run.specs.Words.{alone, serve_words};
-ghost use Rattle.daemon_run.specs.Ending.{EndsWell, text_of, ending_from, IsUnasked, Shows};
 ghost use Rattle.daemon_run.specs.Opening.{ending_unopened, board_unopened};
 ghost use Rattle.daemon_run.specs.Served.{StaysUnserved, IsServed};
 ghost use Rattle.daemon_run.specs.Run.{AsksNothing, Did};
 ghost use Rattle.daemon_run.specs.Quiet.{IsQuiet};
 
-use crate::outcome::{Ending, Outcome};
+use crate::outcome::Outcome;
 use crate::serve::{Unopened, open_account, serve_account};
 use crate::words::serve_words;
 use board_model::Board;
-use home_daemon::{Account, Client, Desk, DeskFault, OpenFault};
+use home_daemon::{Account, OpenFault};
 use request_loop::{Clock, LoopEnd, Sink, Source};
+use run_desk::{Client, Desk, DeskFault};
+use run_ending::Ending;
 use std::alloc::Global;
 
 // How a run ends whose client 0 was served until its loop ended so.

@@ -7,4 +7,4 @@ mod serve;
 mod words;
 
 pub use command::run;
-pub use outcome::{Ending, Outcome};
+pub use outcome::Outcome;

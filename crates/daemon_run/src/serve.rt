@@ -3,17 +3,18 @@
 ghost use Rattle.std.specs.Prelude.{◌≡◌, ℕ, List, [], ◌∷◌, IsTrue, IfOk, IfErr, OnErr, IsErrOf, MatchResult};
 ghost use Rattle.fault_count.specs.Causes.{HasCause};
 ghost use Rattle.home_names.specs.Names.{is_account_name};
-ghost use Rattle.home_daemon.specs.declared.desk.Client.{Client as ClientSeen};
+ghost use Rattle.run_desk.specs.declared.desk.Client.{Client as ClientSeen};
+ghost use Rattle.run_desk.specs.Desk.{HandsOut};
 ghost use Rattle.home_daemon.specs.Account.{Opens};
-ghost use Rattle.home_daemon.specs.Desk.{HandsOut};
 ghost use Rattle.pw_types.specs.Moment.{cut_moment};
 ghost use Rattle.daemon_run.specs.Opening.{FailsToOpen};
 ghost use Rattle.daemon_run.specs.Served.{ServesClient};
 
 use board_model::Board;
-use home_daemon::{Account, Client, Desk, DeskFault, LineClient, OpenFault};
+use home_daemon::{Account, LineClient, OpenFault};
 use pw_types::cut_moment;
 use request_loop::{Clock, LoopEnd, Sink, Source, serve_client};
+use run_desk::{Client, Desk, DeskFault};
 use std::alloc::Global;
 
 /// Why an account wasn't opened.

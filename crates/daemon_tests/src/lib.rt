@@ -4,6 +4,8 @@
 #[cfg(test)]
 mod account_tests;
 #[cfg(test)]
+mod desk_tests;
+#[cfg(test)]
 mod loop_tests;
 #[cfg(test)]
 mod run_tests;

@@ -3,9 +3,9 @@
 use board_model::Board;
 use ct_bytes::{Blob, Text};
 use daemon_run::{Outcome, run};
-use home_daemon::{Client, MemDesk};
 use mem_board::{Fail as BoardFail, MemBoard};
 use request_loop::{ListClock, MemSink, MemSource};
+use run_desk::{Client, MemDesk};
 use std::alloc::Global;
 use std::test::Fail;
 

@@ -4,4 +4,3 @@ pub mod Turns
 pub mod Account
 pub mod Output
 pub mod Answered
-pub mod Desk

@@ -1,8 +1,8 @@
 use Rattle.std.proofs.Common.{inl, inr, refl}
 use Rattle.std.specs.Prelude.{map, string_bytes}
-use Rattle.daemon_run.specs.declared.outcome.Ending.TheVariants.{NoMemory}
+use Rattle.run_ending.specs.declared.ending.Ending.TheVariants.{NoMemory}
+use Rattle.run_ending.specs.Ending.{Shows}
 use Rattle.daemon_run.specs.Words.{serve_words}
-use Rattle.daemon_run.specs.Ending.{Shows}
 use Rattle.daemon_run.proofs.Opened.{asks_nothing, unserved_at_once}
 use Rattle.daemon_run.proofs.Quieting.{unasked_at, no_memory_at, complete_at}
 use Rattle.daemon_run.proofs.command.run.Goals as goal

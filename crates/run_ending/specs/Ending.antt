@@ -1,8 +1,8 @@
 -- The program's statuses, what is printed with each, and the ending of clients that were served.
-use Rattle.std.specs.Prelude.{◌≡◌, ◌⊎◌, ℕ, ◌+◌, Bool, true, false, List, [], ◌∷◌, ◌++◌, Option, None, Some, codes, if◌then◌else◌}
+use Rattle.std.specs.Prelude.{◌≡◌, ◌⊎◌, ◌≤◌, ℕ, ◌+◌, Bool, true, false, List, [], ◌∷◌, ◌++◌, length, Option, None, Some, codes, if◌then◌else◌}
 use Rattle.std.specs.Fmt.{decimal}
-use Rattle.daemon_run.specs.declared.outcome.Ending.{Ending}
-use Rattle.daemon_run.specs.declared.outcome.Ending.TheVariants.{Served, BadWords, BoardFault, Damaged, NoMemory, ClientFault, TooMany, InputLimit, NoEntropy}
+use Rattle.run_ending.specs.declared.ending.Ending.{Ending}
+use Rattle.run_ending.specs.declared.ending.Ending.TheVariants.{Served, BadWords, BoardFault, Damaged, NoMemory, ClientFault, TooMany, InputLimit, NoEntropy}
 use Rattle.request_loop.specs.declared.serve.LoopEnd.{LoopEnd}
 use Rattle.request_loop.specs.declared.serve.LoopEnd.TheVariants as ends
 
@@ -28,6 +28,18 @@ text_of (TooMany accounts clients) =
     codes "too many accounts " ++ decimal accounts ++ codes " clients " ++ decimal clients ++ codes "\n"
 text_of (InputLimit client) = codes "input limit " ++ decimal client ++ codes "\n"
 text_of NoEntropy = codes "no entropy\n"
+
+-- a record that is named has the name of a record, which has at most 166 bytes
+abbrev pub HasShortName : Ending → Type 0
+HasShortName Served = Unit {0}
+HasShortName BadWords = Unit {0}
+HasShortName BoardFault = Unit {0}
+HasShortName (Damaged name) = length name ≤ 166
+HasShortName NoMemory = Unit {0}
+HasShortName (ClientFault client) = Unit {0}
+HasShortName (TooMany accounts clients) = Unit {0}
+HasShortName (InputLimit client) = Unit {0}
+HasShortName NoEntropy = Unit {0}
 
 -- the source or the sink failed
 abbrev pub is_fault : LoopEnd → Bool

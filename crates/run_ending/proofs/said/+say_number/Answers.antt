@@ -2,7 +2,7 @@ use Rattle.std.proofs.Common.{◌≡◌, ℕ, ◌+◌, ◌/◌, ◌%◌, ◌≤�
 use Rattle.std.specs.Fmt.{decimal}
 use Rattle.std.proofs.lemmas.List.{length-append}
 use Rattle.std.proofs.lemmas.Fmt.{decimal_step}
-use Rattle.daemon_run.proofs.outcome.+say_number.Goals as goal
+use Rattle.run_ending.proofs.said.+say_number.Goals as goal
 
 -- a number from 10 on has a digit more than a tenth of it
 digits_more : (n : ℕ) → 10 ≤ n → n < 2 ^ 64 → length (decimal n) ≡ length (decimal (n / 10)) + 1

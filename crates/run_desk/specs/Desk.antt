@@ -1,6 +1,6 @@
 -- What a desk has to hand out, and what a call of it leaves.
-use Rattle.std.specs.Prelude.{◌≡◌, ◌↔◌, ℕ, List, ◌++◌, Option}
-use Rattle.home_daemon.specs.declared.desk.Client.{Client}
+use Rattle.std.specs.Prelude.{◌≡◌, ◌↔◌, ℕ, ◌+◌, List, ◌++◌, length, Option}
+use Rattle.run_desk.specs.declared.desk.Client.{Client}
 
 -- What a desk has: the number for the moment of opening, the entropy where it is told, the boards that it
 -- may hand out by their directory, the clients that it may hand out, in order, and its count of faults.
@@ -24,3 +24,11 @@ module _ {B S K C : Type 0} (before after : DeskSeen B S K C) where
   -- It handed out these clients, in order, and has those behind them still to hand out, and no others.
   abbrev pub HandsOut : List (Client S K C) → Type 0
   HandsOut handed = (rest : List (Client S K C)) → before.clients (handed ++ rest) ↔ after.clients rest
+
+  -- The clients from the first number on, before the next one, were opened: they were handed out in this
+  -- order, and stand behind those that there were.
+  pub record OpensClients (first next : ℕ) (old new : List (Client S K C)) : Type 0 where
+    pub handed : List (Client S K C)
+    pub count : next ≡ first + length handed
+    pub in_order : HandsOut handed
+    pub added : new ≡ old ++ handed

@@ -2,7 +2,7 @@
 
 ghost use Rattle.std.specs.Prelude.{◌≡◌, ℕ, List, [], ◌∷◌, IfOk, OnOk, IsErr, IfSome, OnErr, IsErrOf};
 ghost use Rattle.fault_count.specs.Causes.{HasCause};
-ghost use Rattle.home_daemon.specs.Desk.{DeskSeen, KeepsNumbers, KeepsBoard, HandsOut};
+ghost use Rattle.run_desk.specs.Desk.{DeskSeen, KeepsNumbers, KeepsBoard, HandsOut};
 
 use board_model::Board;
 use fault_count::Failed;
@@ -38,7 +38,7 @@ pub trait Desk {
 
     type Clock: Clock + Send + Drop;
 
-    ghost use Rattle.home_daemon.specs.Desk.{DeskSeen};
+    ghost use Rattle.run_desk.specs.Desk.{DeskSeen};
 
     /// What it has to hand out, and how often it has failed. The count never falls, and stays at
     /// 2^64 - 1 once it is there.

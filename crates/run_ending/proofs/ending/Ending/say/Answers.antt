@@ -1,9 +1,9 @@
 use Rattle.std.proofs.Common.{◌≡◌, ℕ, List, ◌++◌, sym, ap, ◌∙◌, append_assoc}
 use Rattle.std.specs.Prelude.{codes}
 use Rattle.std.specs.Fmt.{decimal}
-use Rattle.daemon_run.specs.declared.outcome.Ending.{Ending}
-use Rattle.daemon_run.specs.Ending.{text_of}
-use Rattle.daemon_run.proofs.outcome.say_ending.Goals as goal
+use Rattle.run_ending.specs.declared.ending.Ending.{Ending}
+use Rattle.run_ending.specs.Ending.{text_of}
+use Rattle.run_ending.proofs.ending.Ending.say.Goals as goal
 
 -- one more text behind what was said
 then : (said a b x y : List ℕ) → x ≡ said ++ a → y ≡ x ++ b → y ≡ said ++ (a ++ b)
@@ -20,7 +20,7 @@ returns-in-TooMany c =
     let two = one ++ codes " clients " in
     let three = two ++ decimal clients in
     record {
-      items = then said three (codes "\n") c.say_number-in-TooMany-2.new.said.items c.say-in-TooMany-3.new.said.items
+      said = then said three (codes "\n") c.say_number-in-TooMany-2.new.said.items c.say-in-TooMany-3.new.said.items
           (then said two (decimal clients) c.say-in-TooMany-2.new.said.items c.say_number-in-TooMany-2.new.said.items
           (then said one (codes " clients ") c.say_number-in-TooMany.new.said.items c.say-in-TooMany-2.new.said.items
           (then said accounts (decimal many) c.say-in-TooMany.new.said.items c.say_number-in-TooMany.new.said.items
