@@ -1,6 +1,6 @@
 //! The endings of a run.
 
-ghost use Rattle.std.specs.Prelude.{◌≡◌, ◌+◌, ◌≤◌, ◌++◌, length, vec_len, vec_capacity};
+ghost use Rattle.std.specs.Prelude.{◌≡◌, ◌+◌, ◌≤◌, ◌++◌, vec_len, vec_capacity};
 ghost use Rattle.run_ending.specs.Ending.{status_of, text_of, HasShortName};
 
 use crate::said::{say, say_number};
