@@ -1,0 +1,5 @@
+//! Tests of clients' seats.
+#![tactic(auto)]
+
+#[cfg(test)]
+mod seats;
