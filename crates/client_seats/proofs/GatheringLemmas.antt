@@ -203,18 +203,6 @@ module _ {E : Type 0} where
       (get_or-append_seam last.front (Some last.seat) [] None) in
       λ i. (last.number, own_in (sym slot i)) ∷ known_last n taken long.1 i
 
-  -- no lock is left
-  pub gathers_none : {T : Type 0} (clients : List (ClientView E)) (locks : List (Lock T)) (wholes : List (WholeLock T E))
-      → locks ≡ []
-      → Gathers clients locks wholes wholes
-  gathers_none clients locks wholes none = record {
-    more = [];
-    new_is = sym (append-nil wholes);
-    locks_are = sym none;
-    whole = tt;
-    knows = λ place d below. absurd (omega arith);
-  }
-
   -- the last lock's seats are joined behind the others
   pub gathers_more : {T : Type 0} (all locks : List (Lock T)) (lock : Lock T) (clients left : List (ClientView E))
       (seat : SeatView E) (before between after : List (WholeLock T E))
