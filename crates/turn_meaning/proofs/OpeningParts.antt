@@ -5,22 +5,21 @@ use Rattle.fault_count.specs.Causes.{HasCause}
 use Rattle.pw_types.specs.declared.era.Era.{Era}
 use Rattle.account_machine.specs.User.{opened}
 use Rattle.account_machine.specs.declared.user.Durable.{Durable}
-use Rattle.account_machine.specs.declared.user.User.{User}
 use Rattle.home_image.specs.Book.{HoldsOne}
 use Rattle.home_image.specs.Settled.{IsStateOf, Opens}
 use Rattle.home_locks.specs.Meanings.{meaning_of}
+use Rattle.home_recovery.specs.Told.{lost_tree}
 use Rattle.home_recovery.proofs.HomeLemmas.{loss_is}
 use Rattle.random_values.specs.Stretches.{Place}
 use Rattle.share_api.specs.Contents.{Bytes, Contents}
 use Rattle.share_api.specs.Folds.{Fold, Throughout}
-use Rattle.share_api.specs.Places.{steps_of}
 use Rattle.share_api.specs.Seen.{ShareSeen, HasFailed}
 use Rattle.share_api.specs.Steps.{Does}
 use Rattle.share_api.specs.declared.step.Step.{Step}
 use Rattle.share_api.proofs.FoldLaws.{throughout_weaker}
 use Rattle.stored_home.specs.Holds.{Keys, Holds, HoldsUnder}
 use Rattle.stored_home.specs.declared.fault.StoreFault.{StoreFault}
-use Rattle.user_opening.specs.Opens.{OpensUser}
+use Rattle.user_opening.specs.Opens.{opened_state, IsOpened, OpensUser}
 use Rattle.user_state.specs.Fits.{is_lost}
 use Rattle.user_state.specs.declared.state.UserState.{UserState}
 use Rattle.turn_meaning.specs.Meanings.{Part, part_of, DoesPart, HoldsPart, user_rules}
@@ -81,11 +80,10 @@ module _ (old new : ShareSeen) (account : Bytes) (cost moment : ℕ) (generator 
       let f = fold_parts old.era (part_of account lost contents) end steps fold in
       let over = (opens.right contents durable keys holds).opened in
       let at = subst (λ r. IfOk r (λ (s : UserState). (c : Contents) → Fold (Does old.era) contents steps c
-      → Rattle.user_opening.specs.Opens.IsOpened s c durable moment keys)) is over end.contents f.2 in
-      let made = subst (λ r. IfOk r (λ (s : UserState). s ≡ Rattle.user_opening.specs.Opens.opened_state account cost
-      moment generator s.stored)) is opens.state in
-      let roots = subst (λ r. IfOk r (λ (s : UserState). s.stored.lost
-      ≡ Rattle.home_recovery.specs.Told.lost_tree old.lost)) is opens.lost in
+      → IsOpened s c durable moment keys)) is over end.contents f.2 in
+      let made = subst (λ r. IfOk r (λ (s : UserState). s ≡ opened_state account cost moment generator s.stored))
+      is opens.state in
+      let roots = subst (λ r. IfOk r (λ (s : UserState). s.stored.lost ≡ lost_tree old.lost)) is opens.lost in
       let named : state.account ≡ end.account = ap (λ (s : UserState). s.account) made ∙ sym f.0 in
       let marked : is_lost state ≡ end.lost = loss_is old.lost state.stored.lost roots ∙ sym f.1 in
       let now : HoldsUnder end.lost end.contents end.account durable keys =
