@@ -4,7 +4,6 @@ use Rattle.std.specs.Prelude.{IsSomeAnd, Contains, slice_index_or}
 use Rattle.std.proofs.lemmas.List.{length-map}
 use Rattle.fault_count.specs.Causes.{HasCause}
 use Rattle.pw_types.specs.declared.era.Era.{Era}
-use Rattle.account_machine.specs.declared.entry.Entry.{Entry as MachineEntry}
 use Rattle.account_machine.specs.declared.user.Durable.{Durable}
 use Rattle.account_machine.specs.declared.user.User.{User}
 use Rattle.account_machine.specs.Step as machine
@@ -26,7 +25,7 @@ use Rattle.user_state.specs.Fits.{HoldsOne, HoldsOneUnder, is_lost}
 use Rattle.user_state.specs.Turns.{HoldsAround, secret_of}
 use Rattle.user_state.specs.declared.state.UserState.{UserState}
 use Rattle.user_turn.specs.Acts.{IsAct, IsOneOf}
-use Rattle.turn_meaning.specs.Meanings.{user_rules, entry_of, Part, part_of, contents_of, DoesPart, HoldsPart, IsCleanOf}
+use Rattle.turn_meaning.specs.Meanings.{user_rules, entry_of, Part, part_of, contents_of, DoesPart, IsCleanOf}
 use Rattle.turn_meaning.specs.declared.taken.TurnTaken.{TurnTaken}
 
 module _ (lost : Bool) (contents : Contents) (account : Bytes) (keys : Keys) where

@@ -4,11 +4,10 @@ use Rattle.std.specs.Prelude.{IfSome, if◌then◌else◌, option_and_then, ◌=
 use Rattle.std.specs.Ordering.{nat_cmp, is_lt, is_eq}
 use Rattle.std.specs.declared.cmp.Ordering.{Ordering}
 use Rattle.std.specs.declared.cmp.Ordering.TheVariants.{Less, Equal, Greater}
-use Rattle.std.specs.Cmp.Lexicographic.{slice_cmp, nat_list_cmp_total}
+use Rattle.std.specs.Cmp.Lexicographic.{slice_cmp}
 use Rattle.std.specs.FinMap.{get, insert, remove, empty, entries, get-empty, get-entries, entries_sorted}
 use Rattle.std.specs.FinMap.Entries.{find, below_all, is_sorted}
 use Rattle.pw_types.specs.declared.era.Era.{Era}
-use Rattle.pw_types.specs.declared.stamp.Stamp.{Stamp}
 use Rattle.pw_types.specs.declared.delay.Readiness.{Readiness}
 use Rattle.pw_types.specs.declared.delay.Readiness.TheVariants as readiness
 use Rattle.account_machine.specs.declared.answer.Answer.{Answer}
@@ -27,7 +26,6 @@ use Rattle.account_machine.specs.declared.session.Session.{Session}
 use Rattle.account_machine.specs.declared.session.Token.{Token}
 use Rattle.account_machine.specs.declared.user.Durable.{Durable}
 use Rattle.account_machine.specs.declared.user.User.{User}
-use Rattle.account_machine.specs.Answers.{answer_of}
 use Rattle.account_machine.specs.Effect.{Outcome, gives, effect, turn_effect, cleared, cleared_by, first_counted, missed, new_factor, schedule_of, with_factor, tried, pin_tried, readiness_now, right_pin, password_tried}
 use Rattle.account_machine.specs.Outline.{Bytes, is_pin_kind, session_at}
 use Rattle.account_machine.specs.Step.{Step, Row, Given, by_row, unsettles, loses, hides, stands_in, Turned, outcome, outcome_by, refusal_now, reload_of}

@@ -1,9 +1,7 @@
 -- What an account's data mean to one another, for the composition of all accounts.
-use Rattle.std.specs.Prelude.{◌≡◌, ℕ, Bool, List, Option, None, Contains, map}
+use Rattle.std.specs.Prelude.{◌≡◌, Bool, List, Contains, map}
 use Rattle.pw_types.specs.declared.era.Era.{Era}
-use Rattle.account_machine.specs.declared.answer.Answer.{Answer}
 use Rattle.account_machine.specs.declared.entry.Entry.{Entry}
-use Rattle.account_machine.specs.declared.entry.Told.{Told}
 use Rattle.account_machine.specs.declared.request.Turn.{Turn}
 use Rattle.account_machine.specs.declared.user.Durable.{Durable}
 use Rattle.account_machine.specs.declared.user.User.{User}

@@ -6,7 +6,7 @@ use Rattle.home_image.specs.Settled.{Opens}
 use Rattle.home_locks.specs.Meanings.{meaning_of}
 use Rattle.home_locks.specs.Turns.{StepsOn}
 use Rattle.share_api.specs.Contents.{Bytes}
-use Rattle.share_api.specs.Folds.{Fold, Throughout}
+use Rattle.share_api.specs.Folds.{Throughout}
 use Rattle.share_api.specs.Places.{steps_of}
 use Rattle.share_api.specs.Seen.{ShareSeen}
 use Rattle.share_api.specs.declared.step.Step.{Step}
