@@ -1,0 +1,4 @@
+mod NumberLemmas
+mod FailureLemmas
+mod OpenedLemmas
+mod ClosingLemmas
