@@ -1,0 +1,3 @@
+mod ClientSlots
+mod EndingLemmas
+mod PartLemmas
