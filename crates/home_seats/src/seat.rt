@@ -119,7 +119,15 @@ impl<'a, B: Board + Drop, F: Kdf + Drop> TurnSeat for SeatAtLock<'a, B, F> {
         let derived = key_for(self.prepared.take(), &turn);
         let asked = TurnAsked::new(turn, derived, cut_moment(moment));
         let seat = self.seat.take().unwrap();
-        let (seat, taken) = take_turn::<R, UserTurns<B>>(rt, alloc, self.shared, self.lock, seat, blank, asked);
+        let (seat, taken) = take_turn::<R, UserTurns<B>>(
+            rt,
+            alloc,
+            self.shared,
+            self.lock,
+            seat,
+            blank,
+            asked,
+        );
         self.seat = Some(seat);
         let TurnTold { answer, seen } = taken.told;
         self.seen = seen;
