@@ -8,4 +8,4 @@ mod settling;
 
 pub use home::UserHome;
 pub use open_home::OpenHome;
-pub use settling::{HomeBooks, settle_home};
+pub use settling::{HomeBooks, close_locks, settle_home};

@@ -103,8 +103,11 @@ fn settle_accounts<B: Board + Drop>(
     settle(shared, parts, books)
 }
 
-// Closes all locks, whether there are accounts or not.
-fn close_locks<B: Board + Drop>(
+/// Closes all locks of a home, whether there are accounts or not, and gives the platform with the accounts' books.
+///
+/// Each account's lock comes with a seat that has all its numbers. `idle` is the seat of the platform's lock, where there
+/// is no account. `parts` and `books` are empty lists with room for all accounts, so it takes no memory.
+pub fn close_locks<B: Board + Drop>(
     shared: Shared<BoardDevice<B>>,
     idle: Option<Seat<SharedDevice<BoardDevice<B>>>>,
     wholes: Vec<WholeLock<Account<UserTurns<B>>>>,
