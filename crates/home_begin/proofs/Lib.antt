@@ -1,0 +1,7 @@
+mod Apart
+mod Begun
+mod Dealing
+mod DeviceLemmas
+mod Failures
+mod Stopping
+mod Whole
