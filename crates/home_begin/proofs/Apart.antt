@@ -54,6 +54,7 @@ with_all names [] apart = apart
 with_all names (x ∷ more) apart = with_all (with_name names x) more (with_one names x apart)
 
 -- those that are named and found are apart
-pub found_apart : (named names accounts : List Bytes) → accounts ≡ accounts_found named names → are_apart accounts ≡ true
+pub found_apart : (named names accounts : List Bytes) → accounts ≡ accounts_found named names
+    → are_apart accounts ≡ true
 found_apart named names accounts is =
     ap are_apart is ∙ with_all (with_names [] named) (map account_of names) (with_all [] named refl)

@@ -45,7 +45,8 @@ module _ {B : Type 0} (disk_of : B → Disk) (faults_of : B → ℕ) (board : B)
             subst (λ (p : Platform B). (image : Image) → (disk_of (held.board_of p)).may_leave image
             → Shows (held.accounts_of p) image (held.contents_of (disk_of (held.board_of p)) p)) back
             (shown told agrees);
-        any_moment = subst (λ (p : Platform B). Leaves (disk_of board) (disk_of (held.board_of p)) Kept) back any_moment;
+        any_moment = subst (λ (p : Platform B). Leaves (disk_of board) (disk_of (held.board_of p)) Kept) back
+            any_moment;
         kept = subst (λ (p : Platform B). Goes (disk_of board) (disk_of (held.board_of p)) Kept) back kept;
         quiet = ap (λ (p : Platform B). faults_of (held.board_of p)) is ∙ quiet;
         refused = refused;

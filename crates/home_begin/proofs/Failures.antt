@@ -12,7 +12,8 @@ use Rattle.platform_lock.specs.Devices.{account_of}
 use Rattle.home_opening.specs.Numbers.{KnowsFailure, OneFailed}
 
 -- a failed step among those of an account is one of the chain
-failed_among : (place account : ℕ) (chain : List Step) → HasFailed (steps_of (entries_from account_of place account chain))
+failed_among : (place account : ℕ) (chain : List Step)
+    → HasFailed (steps_of (entries_from account_of place account chain))
     → HasFailed chain
 failed_among place account [] failed = failed
 failed_among place account (step ∷ chain) failed =

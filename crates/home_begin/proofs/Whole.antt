@@ -52,7 +52,8 @@ module _ {B : Type 0} (disk_of : B → Disk) (faults_of : B → ℕ) where
         apart = ap are_apart names_is ∙ apart;
         opened = subst (λ (d : BoardDevice B). AreOpenedFrom (seen_by faults_of d) shared opening 0 names locks)
             (sym device_is)
-            (subst (λ (xs : List Bytes). AreOpenedFrom (seen_by faults_of given) shared opening 0 xs locks) (sym names_is)
+            (subst (λ (xs : List Bytes). AreOpenedFrom (seen_by faults_of given) shared opening 0 xs locks)
+            (sym names_is)
             opened);
         idle_is = subst (λ (n : ℕ). IsIdle shared n idle) (sym many) none;
       }

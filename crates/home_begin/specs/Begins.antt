@@ -52,8 +52,8 @@ module _ {B : Type 0} (disk_of : B → Disk) (faults_of : B → ℕ) where
     pub quiet : faults_of (board_of device) ≡ faults_of board
     pub refused : refused_of device ≡ 0
 
-  -- There is no device: the board failed, and its count rose, or there are too many accounts, or there was no memory. No
-  -- file but temporary ones changed.
+  -- There is no device: the board failed, and its count rose, or there are too many accounts, or there was no memory.
+  -- No file but temporary ones changed.
   pub record IsUnopened (board : B) (named : List Bytes) (fault : HomeFault) (left : B) : Type 0 where
     pub many : (accounts : ℕ) → fault ≡ faults.TooMany accounts → AreTooMany (disk_of board) named accounts
     pub whole : (name : Bytes) → fault ≡ faults.Damaged name → ⊥
@@ -61,7 +61,8 @@ module _ {B : Type 0} (disk_of : B → Disk) (faults_of : B → ℕ) where
     pub kept : Goes (disk_of board) (disk_of left) Kept
     pub cause : HasCause (faults_of board) (faults_of left) (fault ≡ faults.Failed)
 
-  -- A home was begun over the board: its accounts are those of the device, each opened so and behind its lock, in order.
+  -- A home was begun over the board: its accounts are those of the device, in order, each opened so and behind its
+  -- lock.
   pub record IsBegun (board : B) (named : List Bytes) (opening : Opening) (device : BoardDevice B) (shared : LockId)
       (names : List Bytes) (locks : List LockSeen) (idle : Option (SeatView Step)) : Type 0 where
     pub device_is : OpensDevice board named device

@@ -208,8 +208,8 @@ fn begin_over<R: Wait, B: Board + Drop>(
 /// Begins the home of a board, for so many clients as the opening has: opens its platform, recovers all accounts, those
 /// that are named and those that are found, and deals the clients' seats.
 ///
-/// The faults are `Failed`, where the board failed, `TooMany` with the number of accounts, `Damaged` with a record of an
-/// account that can't be opened, and `NoMemory`. After a fault all locks are closed, and the board comes back.
+/// The faults are `Failed`, where the board failed, `TooMany` with the number of accounts, `Damaged` with a record of
+/// an account that can't be opened, and `NoMemory`. After a fault all locks are closed, and the board comes back.
 pub fn begin_home<R: Wait, B: Board + Drop>(
     rt: &R,
     alloc: Global,

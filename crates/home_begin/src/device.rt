@@ -27,8 +27,8 @@ fn told_open_fault(fault: OpenFault) -> HomeFault
     }
 }
 
-/// The device of a board in an era, with the names of its accounts: those that are named, each once, and then the others
-/// that are found. After a fault the board is given back.
+/// The device of a board in an era, with the names of its accounts: those that are named, each once, and then the
+/// others that are found. After a fault the board is given back.
 pub fn open_device<B: Board + Drop>(
     alloc: Global,
     board: B,

@@ -32,7 +32,8 @@ pub returns-clause-many : goal.returns-clause-many
 returns-clause-many g c =
     ok_gives c.begin_over.result _ _
     (λ begun dealt. sym (length-map begun.clients.items client_view) ∙ ap length dealt
-    ∙ length-map-range_with_len (new_client (map (λ lock. lock.id) begun.home.locks.items)) 0 c.args.opening.now.clients)
+    ∙ length-map-range_with_len (new_client (map (λ lock. lock.id) begun.home.locks.items)) 0
+    c.args.opening.now.clients)
     c.begin_over.ensures.clients
 
 pub returns-clause-refused : goal.returns-clause-refused

@@ -98,14 +98,18 @@ close_locks-requires-clause-can g c =
     ∙ ap (λ xs. map (λ w. w.lock) xs ++ c.part_accounts.new.locks.items) c.requires.wholes.empty ∙ locks in
     let seen : map (λ w. lock_seen w.lock.id w.lock.first.seat w.lock.first.state w.lock.first.era) wholes
     ≡ map (λ (a : AccountSeen). a.at) (map seen_of accounts) =
-    sym (images_of (λ lock. lock_seen lock.id lock.first.seat lock.first.state lock.first.era) (λ w. w.lock) wholes) ∙ ap (map (λ lock. lock_seen lock.id lock.first.seat lock.first.state lock.first.era)) again
-    ∙ same_images (λ lock. lock_seen lock.id lock.first.seat lock.first.state lock.first.era) (λ a. a.lock) (λ (a : AccountSeen). a.at) seen_of accounts (λ a. refl) in
+    sym (images_of (λ lock. lock_seen lock.id lock.first.seat lock.first.state lock.first.era)
+    (λ w. w.lock) wholes)
+    ∙ ap (map (λ lock. lock_seen lock.id lock.first.seat lock.first.state lock.first.era)) again
+    ∙ same_images (λ lock. lock_seen lock.id lock.first.seat lock.first.state lock.first.era)
+    (λ a. a.lock) (λ (a : AccountSeen). a.at) seen_of accounts (λ a. refl) in
     record {
       clients = opening.clients;
       of = subst (AreAccountLocks shared device.era opening.clients 0) (sym seen)
           (account_locks device shared opening 0 c.args.names.items _ c.requires.opened);
       idle_is = subst (λ (n : ℕ). IsIdle shared n c.args.opened.idle)
-          (sym (ap length seen ∙ as_many device shared opening 0 c.args.names.items _ c.requires.opened)) c.requires.idle;
+          (sym (ap length seen ∙ as_many device shared opening 0 c.args.names.items _ c.requires.opened))
+          c.requires.idle;
     }
 
 pub close_locks-requires-clause-whole : goal.close_locks-requires-clause-whole
@@ -144,7 +148,8 @@ close_locks-requires-clause-parts g c =
     ∙ ap (λ xs. map (λ w. w.lock) xs ++ c.part_accounts.new.locks.items) c.requires.wholes.empty ∙ locks in
     let long : length wholes ≡ length c.args.names.items =
     sym (length-map wholes (λ w. w.lock)) ∙ ap length again ∙ length-map accounts (λ a. a.lock) ∙ many in
-    subst (λ (n : ℕ). IsRoomFor n c.args.rooms.parts.items (vec_capacity c.args.rooms.parts)) (sym long) c.requires.parts
+    subst (λ (n : ℕ). IsRoomFor n c.args.rooms.parts.items (vec_capacity c.args.rooms.parts)) (sym long)
+    c.requires.parts
 
 pub close_locks-requires-clause-books : goal.close_locks-requires-clause-books
 close_locks-requires-clause-books g c =
@@ -162,7 +167,8 @@ close_locks-requires-clause-books g c =
     ∙ ap (λ xs. map (λ w. w.lock) xs ++ c.part_accounts.new.locks.items) c.requires.wholes.empty ∙ locks in
     let long : length wholes ≡ length c.args.names.items =
     sym (length-map wholes (λ w. w.lock)) ∙ ap length again ∙ length-map accounts (λ a. a.lock) ∙ many in
-    subst (λ (n : ℕ). IsRoomFor n c.args.rooms.books.items (vec_capacity c.args.rooms.books)) (sym long) c.requires.books
+    subst (λ (n : ℕ). IsRoomFor n c.args.rooms.books.items (vec_capacity c.args.rooms.books)) (sym long)
+    c.requires.books
 
 pub returns-in-Ok-clause-opened : goal.returns-in-Ok-clause-opened
 returns-in-Ok-clause-opened g c =
@@ -174,7 +180,9 @@ returns-in-Ok-clause-opened g c =
     c.part_accounts.ensures.locks ∙ ap (λ xs. xs ++ map (λ a. a.lock) accounts) c.requires.locks.empty in
     subst (AreOpenedFrom device shared opening 0 c.args.names.items)
     (sym (ap (map (λ lock. lock_seen lock.id lock.first.seat lock.first.state lock.first.era)) locks
-    ∙ same_images (λ lock. lock_seen lock.id lock.first.seat lock.first.state lock.first.era) (λ a. a.lock) (λ (a : AccountSeen). a.at) seen_of accounts (λ a. refl))) c.requires.opened
+    ∙ same_images (λ lock. lock_seen lock.id lock.first.seat lock.first.state lock.first.era)
+    (λ a. a.lock) (λ (a : AccountSeen). a.at) seen_of accounts (λ a. refl)))
+    c.requires.opened
 
 pub returns-in-Ok-clause-idle : goal.returns-in-Ok-clause-idle
 returns-in-Ok-clause-idle g c =
@@ -202,7 +210,8 @@ returns-in-Ok-clause-wholes g c =
     c.part_accounts.ensures.locks ∙ ap (λ xs. xs ++ map (λ a. a.lock) accounts) c.requires.locks.empty in
     let long : length c.part_accounts.new.locks.items ≡ length c.args.names.items =
     ap length locks ∙ length-map accounts (λ a. a.lock) ∙ many in
-    subst (λ (n : ℕ). IsRoomFor n c.args.rooms.wholes.items (vec_capacity c.args.rooms.wholes)) (sym long) c.requires.wholes
+    subst (λ (n : ℕ). IsRoomFor n c.args.rooms.wholes.items (vec_capacity c.args.rooms.wholes)) (sym long)
+    c.requires.wholes
 
 pub returns-in-Ok-clause-parts : goal.returns-in-Ok-clause-parts
 returns-in-Ok-clause-parts g c =
@@ -216,7 +225,8 @@ returns-in-Ok-clause-parts g c =
     c.part_accounts.ensures.locks ∙ ap (λ xs. xs ++ map (λ a. a.lock) accounts) c.requires.locks.empty in
     let long : length c.part_accounts.new.locks.items ≡ length c.args.names.items =
     ap length locks ∙ length-map accounts (λ a. a.lock) ∙ many in
-    subst (λ (n : ℕ). IsRoomFor n c.args.rooms.parts.items (vec_capacity c.args.rooms.parts)) (sym long) c.requires.parts
+    subst (λ (n : ℕ). IsRoomFor n c.args.rooms.parts.items (vec_capacity c.args.rooms.parts)) (sym long)
+    c.requires.parts
 
 pub returns-in-Ok-clause-books : goal.returns-in-Ok-clause-books
 returns-in-Ok-clause-books g c =
@@ -230,7 +240,8 @@ returns-in-Ok-clause-books g c =
     c.part_accounts.ensures.locks ∙ ap (λ xs. xs ++ map (λ a. a.lock) accounts) c.requires.locks.empty in
     let long : length c.part_accounts.new.locks.items ≡ length c.args.names.items =
     ap length locks ∙ length-map accounts (λ a. a.lock) ∙ many in
-    subst (λ (n : ℕ). IsRoomFor n c.args.rooms.books.items (vec_capacity c.args.rooms.books)) (sym long) c.requires.books
+    subst (λ (n : ℕ). IsRoomFor n c.args.rooms.books.items (vec_capacity c.args.rooms.books)) (sym long)
+    c.requires.books
 
 pub returns-in-Err-clause-stops : goal.returns-in-Err-clause-stops
 returns-in-Err-clause-stops g c =

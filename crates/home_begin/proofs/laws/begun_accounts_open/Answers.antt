@@ -7,6 +7,6 @@ use Rattle.home_begin.proofs.laws.begun_accounts_open.Goals as goal
 
 pub returns : goal.returns
 returns g c = λ board named opening device shared names locks idle durable begun holds.
-    accounts_open (seen_by g.B.Board.faults device) shared opening (parts_of g.B.Board.disk device) durable 0 names locks
-    begun.opened refl (λ n name is. named_at (accounts_of device) n name is) (λ n. refl)
+    accounts_open (seen_by g.B.Board.faults device) shared opening (parts_of g.B.Board.disk device) durable 0 names
+    locks begun.opened refl (λ n name is. named_at (accounts_of device) n name is) (λ n. refl)
     (λ n below. holds n (omega (arith, below)))
