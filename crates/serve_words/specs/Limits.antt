@@ -1,5 +1,7 @@
 -- How words are answered: the limits, the statuses, and the clients' numbers.
-use Rattle.std.specs.Prelude.{ℕ, ◌==◌, ◌&&◌, nat_le, List, length, Option, None, Some, Result, Ok, Err, max, if◌then◌else◌}
+use Rattle.std.specs.Prelude.{ℕ, ◌==◌, ◌≤◌, ◌&&◌, nat_le, List, length, Option, None, Some, Result, Ok, Err, IsTrue, max, if◌then◌else◌}
+use Rattle.std.specs.List.{list_all}
+use Rattle.home_names.specs.Names.{is_account_name}
 use Rattle.serve_words.specs.declared.fault.UsageFault.{UsageFault}
 use Rattle.serve_words.specs.declared.fault.UsageFault.TheVariants.{BadWords, TooMany, NoMemory}
 use Rattle.serve_words.specs.declared.options.ServeOptions.{ServeOptions}
@@ -36,3 +38,11 @@ first_client clients = if clients == 0 then 0 else 1
 
 abbrev pub client_count : ℕ → ℕ
 client_count clients = max clients 1
+
+-- What is served: a cost from 1 to 16, names of accounts, and no more accounts and clients than may be.
+pub record IsBounded (asked : Asked) : Type 0 where
+  pub least : 1 ≤ asked.cost
+  pub most : asked.cost ≤ 16
+  pub plain : IsTrue (list_all is_account_name asked.accounts)
+  pub few : length asked.accounts ≤ 64
+  pub clients : asked.clients ≤ 16

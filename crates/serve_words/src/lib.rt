@@ -9,5 +9,5 @@ mod number;
 mod options;
 
 pub use fault::UsageFault;
-pub use laws::words_ask_what_they_spell;
+pub use laws::{what_is_asked_is_bounded, words_ask_what_they_spell};
 pub use options::{ServeOptions, serve_options};
