@@ -1,12 +1,15 @@
-//! The program: it reads the words of its command line, and serves the client at its standard input
-//! and output.
+//! The program: it reads the words of its command line, and serves the clients of its desk.
 #![tactic(auto)]
 
+mod client_files;
+mod clock;
+mod input;
+mod output;
 mod real_desk;
 
-use daemon_run::run;
 use real_desk::RealDesk;
 use run_ending::Ending;
+use serve_run::run;
 use std::io::ErrorKind;
 use std::process::ExitCode;
 use std::{env, io};
@@ -41,6 +44,6 @@ fn main(rt: HostRuntime) -> ExitCode {
         Err(_) => return end(&rt, Ending::BadWords.status(), b"bad words\n"),
     };
     let mut desk = RealDesk::new(rt);
-    let outcome = run(rt.alloc(), &words, &mut desk);
+    let outcome = run(&rt, rt.alloc(), &words, &mut desk);
     end(&rt, outcome.status, &outcome.said)
 }

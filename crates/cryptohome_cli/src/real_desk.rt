@@ -1,21 +1,28 @@
 //! The desk over the real system. It tells nothing but the moment and that all counts begin at 0.
 
-ghost use Rattle.std.specs.Prelude.{◌≡◌, ◌≤◌, None, IfOk, length};
+ghost use Rattle.std.specs.Prelude.{◌≡◌, ◌==◌, true, false, None, IfOk};
+ghost use Rattle.fault_count.specs.Causes.{HasCause};
+ghost use Rattle.cryptohome_cli.specs.Fresh.{IsFresh, IsStandard};
 
+use crate::client_files::ClientFiles;
+use crate::clock::{SystemClock, seconds};
+use crate::input::Input;
+use crate::output::Output;
 use board_model::{BoardFault, FileBoard};
 use fault_count::{Failed, FaultCount};
-use request_loop::{Clock, Sink, Source};
 use run_desk::{Client, Desk, DeskFault};
 use std::alloc::Global;
 use std::fs::File;
-use std::io::{self, ErrorKind, Read, StdinLock, Write};
-use std::time::SystemTime;
+use std::io::{self, ErrorKind, Read};
 
-/// The desk of the program: directories of the system, standard input and output, and its clock.
+/// The desk of the program: a directory of the system, standard input and output, the files or named pipes
+/// beside the directory, and the system's clock.
 #[derive(Drop)]
 pub struct RealDesk {
     rt: HostRuntime,
     moment: u64,
+    // The directory of the board without slashes at its end, once it is open: clients' files lie beside it.
+    beside: Option<String>,
     faults: FaultCount,
 }
 
@@ -25,19 +32,53 @@ impl RealDesk {
         RealDesk {
             rt,
             moment: seconds(&rt),
+            beside: None,
             faults: FaultCount::new(),
         }
     }
-}
 
-// The seconds since 1970, or 0 where the clock gives none.
-fn seconds(rt: &HostRuntime) -> u64 {
-    let Ok(now) = SystemTime::now(rt) else {
-        return 0;
-    };
-    match now.duration_since(SystemTime::UNIX_EPOCH) {
-        Ok(since) => since.as_secs(),
-        Err(_) => 0,
+    // A client over standard input and output.
+    fn standard_client(&self) -> Client<Input, Output, SystemClock>
+        ensures fresh { IsFresh result }
+        ensures streams { IsStandard true result }
+    {
+        Client {
+            source: Input::standard(&self.rt),
+            sink: Output::standard(self.rt),
+            clock: SystemClock::new(self.rt),
+        }
+    }
+
+    // A client over its files beside the directory, which is open.
+    fn client_over_files(
+        &self,
+        alloc: Global,
+        number: u32,
+    ) -> io::Result<Client<Input, Output, SystemClock>>
+        ensures fresh { IfOk result IsFresh }
+        ensures streams { IfOk result (IsStandard false) }
+    {
+        let Some(beside) = &self.beside else {
+            return Err(io::Error::from(ErrorKind::NotFound));
+        };
+        let files = ClientFiles::open(&self.rt, alloc, beside.as_str(), number)?;
+        Ok(Client {
+            source: Input::opened(files.input),
+            sink: Output::opened(files.output),
+            clock: SystemClock::new(self.rt),
+        })
+    }
+
+    // Client 0, and no other, has standard input and output.
+    fn client(&self, alloc: Global, number: u32) -> io::Result<Client<Input, Output, SystemClock>>
+        ensures fresh { IfOk result IsFresh }
+        ensures streams { IfOk result (IsStandard (number == 0)) }
+    {
+        if number == 0 {
+            Ok(self.standard_client())
+        } else {
+            self.client_over_files(alloc, number)
+        }
     }
 }
 
@@ -49,77 +90,15 @@ fn random_bytes(rt: &HostRuntime) -> io::Result<[u8; 32]> {
     Ok(bytes)
 }
 
-/// Standard input. Its reader lasts as long as it does.
-#[derive(Drop)]
-pub struct Input {
-    reader: StdinLock<'static>,
-    taken: u64,
-    faults: FaultCount,
-}
-
-// Reads once. A read that a signal interrupted is made again.
-fn read_again<R: Read>(reader: &mut R, buf: &mut [u8]) -> io::Result<usize>
-    ensures within { IfOk result (λ count. count ≤ length buf.new) }
+// Counts that the system failed. Want of memory is an answer of its own, and isn't counted.
+fn counted(faults: &mut FaultCount, no_memory: bool) -> DeskFault
+    ensures cause { HasCause faults.old faults.new (result ≡ DeskFault.Failed) }
 {
-    for _ in 0..u64::MAX {
-        match reader.read(buf) {
-            Err(error) if error.kind() == ErrorKind::Interrupted => {}
-            outcome => return outcome,
-        }
+    if no_memory {
+        return DeskFault::NoMemory;
     }
-    Err(io::Error::from(ErrorKind::Interrupted))
-}
-
-/// Standard output.
-#[derive(Drop)]
-pub struct Output {
-    rt: HostRuntime,
-    faults: FaultCount,
-}
-
-/// The system's clock, in seconds since 1970.
-#[derive(Drop)]
-pub struct SystemClock {
-    rt: HostRuntime,
-}
-
-impl Source for Input {
-    ghost left = { λ s. None };
-
-    ghost taken = { λ s. s.taken };
-
-    ghost faults = { λ s. s.faults };
-
-    fn read(&mut self, buf: &mut [u8]) -> Result<usize, Failed> {
-        match read_again(&mut self.reader, buf) {
-            Ok(count) => {
-                self.taken = self.taken.saturating_add(count as u64);
-                Ok(count)
-            }
-            Err(_) => Err(self.faults.raise()),
-        }
-    }
-}
-
-impl Sink for Output {
-    ghost written = { λ s. None };
-
-    ghost faults = { λ s. s.faults };
-
-    fn write(&mut self, bytes: &[u8]) -> Result<(), Failed> {
-        match self.rt.stdout().write_all(bytes) {
-            Ok(()) => Ok(()),
-            Err(_) => Err(self.faults.raise()),
-        }
-    }
-}
-
-impl Clock for SystemClock {
-    ghost given = { λ s. None };
-
-    fn now(&mut self) -> u64 {
-        seconds(&self.rt)
-    }
+    let _ = faults.raise();
+    DeskFault::Failed
 }
 
 impl Desk for RealDesk {
@@ -155,32 +134,32 @@ impl Desk for RealDesk {
     }
 
     fn open_board(&mut self, alloc: Global, dir: &str) -> Result<Self::Board, DeskFault> {
+        let Ok(beside) = String::from_str(alloc, dir.trim_end_matches('/')) else {
+            return Err(DeskFault::NoMemory);
+        };
         match FileBoard::open(self.rt, alloc, dir) {
-            Ok(board) => Ok(board),
-            Err(BoardFault::NoMemory) => Err(DeskFault::NoMemory),
-            Err(BoardFault::Failed) => {
-                let _ = self.faults.raise();
-                Err(DeskFault::Failed)
+            Ok(board) => {
+                self.beside = Some(beside);
+                Ok(board)
+            }
+            Err(fault) => {
+                let no_memory = matches!(fault, BoardFault::NoMemory);
+                Err(counted(&mut self.faults, no_memory))
             }
         }
     }
 
     fn open_client(
         &mut self,
-        _alloc: Global,
-        _number: u32,
+        alloc: Global,
+        number: u32,
     ) -> Result<Client<Input, Output, SystemClock>, DeskFault> {
-        Ok(Client {
-            source: Input {
-                reader: self.rt.reader(),
-                taken: 0,
-                faults: FaultCount::new(),
-            },
-            sink: Output {
-                rt: self.rt,
-                faults: FaultCount::new(),
-            },
-            clock: SystemClock { rt: self.rt },
-        })
+        match self.client(alloc, number) {
+            Ok(client) => Ok(client),
+            Err(error) => {
+                let no_memory = error.kind() == ErrorKind::OutOfMemory;
+                Err(counted(&mut self.faults, no_memory))
+            }
+        }
     }
 }

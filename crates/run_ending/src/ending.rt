@@ -1,10 +1,10 @@
 //! The endings of a run.
 
 ghost use Rattle.std.specs.Prelude.{◌≡◌, ◌+◌, ◌≤◌, ◌++◌, vec_len, vec_capacity};
-ghost use Rattle.run_ending.specs.Ending.{status_of, text_of, HasShortName};
+ghost use Rattle.run_ending.specs.Ending.{status_of, text_of};
 
 use crate::said::{say, say_number};
-use ct_bytes::Text;
+use record_names::RecordName;
 
 /// The bytes that the text of an ending takes at most: `damaged `, the longest name of a record, which
 /// has 166 bytes, and a line feed.
@@ -20,7 +20,7 @@ pub enum Ending {
     /// The board failed while it was opened.
     BoardFault,
     /// The record of this name is outside its form.
-    Damaged(Text),
+    Damaged(RecordName),
     /// There was no memory.
     NoMemory,
     /// The source or sink of the client with this number failed, or couldn't be opened.
@@ -55,7 +55,6 @@ impl Ending {
     #[tactic(auto, using(crate::proofs::Digits::at_most_twenty))]
     pub fn say(&self, said: &mut Vec<u8>)
         requires room { vec_len said.old + 175 ≤ vec_capacity said.old }
-        requires name { HasShortName self.now }
         ensures said { said.new.items ≡ said.old.items ++ text_of self.now }
     {
         match self {

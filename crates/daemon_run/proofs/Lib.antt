@@ -1,4 +1,0 @@
-mod Short
-mod Opened
-mod Histories
-mod Quieting

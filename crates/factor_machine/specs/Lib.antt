@@ -1,4 +1,0 @@
-pub mod Row
-pub mod Reload
-pub mod Step
-pub mod Legal

@@ -1,0 +1,9 @@
+//! Tests of the clients' loop and of a desk's clients, over objects in memory.
+#![tactic(auto)]
+
+#[cfg(test)]
+mod desk;
+#[cfg(test)]
+mod lines;
+#[cfg(test)]
+mod objects;

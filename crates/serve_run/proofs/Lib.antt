@@ -1,0 +1,5 @@
+mod Numbers
+mod Joined
+mod Sharing
+mod Ends
+mod Opening

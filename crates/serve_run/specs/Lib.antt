@@ -1,0 +1,6 @@
+pub mod Outside
+pub mod Left
+pub mod Histories
+pub mod Begun
+pub mod Serving
+pub mod Run
