@@ -1,0 +1,51 @@
+-- A change as a try, where the tree isn't lost.
+use Rattle.std.proofs.Common.{◌≡◌, ℕ, [], ◌∷◌, Option, None, Result, Ok, Err, IsOk, IsErr, refl, sym, subst, true≢false}
+use Rattle.std.specs.Prelude.{IfErr, IsErrOf}
+use Rattle.share_api.specs.Conditions.{IsLeafFault, TellsLoss}
+use Rattle.share_api.specs.Contents.{Bytes}
+use Rattle.share_api.specs.Replies.{done_reply}
+use Rattle.share_api.specs.Seen.{ShareSeen, Makes, Tries, step_of}
+use Rattle.share_api.specs.declared.fault.ShareFault.{ShareFault}
+use Rattle.share_api.specs.declared.fault.ShareFault.TheVariants as faults
+use Rattle.share_api.specs.declared.step.Op.TheVariants.{Do}
+use Rattle.share_api.specs.declared.step.Write.{Write}
+use Rattle.share_api.proofs.TryLaws.{write_tries}
+use Rattle.stored_home.specs.declared.fault.StoreFault.{StoreFault}
+use Rattle.stored_home.specs.declared.fault.StoreFault.TheVariants.{Failed}
+use Rattle.pin_edits.specs.Writes.{ended}
+
+-- it is Ok where the call was, and a fault where it was
+ended_ok : (tried : Result Unit ShareFault) → IsOk (ended tried) → IsOk tried
+ended_ok (Ok nothing) h = refl
+ended_ok (Err fault) h = h
+
+ended_err : (tried : Result Unit ShareFault) → IsErr (ended tried) → IsErr tried
+ended_err (Ok nothing) h = h
+ended_err (Err fault) h = refl
+
+-- its one fault is that it failed
+pub ended_only : (tried : Result Unit ShareFault) (result : Result Unit StoreFault) → result ≡ ended tried
+    → IsErr result → IsErrOf result Failed
+ended_only (Ok nothing) result is h = absurd (true≢false (sym (subst IsErr is h)))
+ended_only (Err fault) result is h = is
+
+-- a change of a record, or of a leaf
+pub change_tries : (old new : ShareSeen) (moment : ℕ) (write : Write) (tried : Result Unit ShareFault)
+    (result : Result Unit StoreFault) → result ≡ ended tried
+    → Makes old new (step_of old moment (Do write) (done_reply tried)) → (IsErr tried → IsErrOf tried faults.Failed)
+    → Tries old new (write ∷ []) (IsOk result) (IsErr result)
+change_tries old new moment write tried result is makes only =
+    write_tries old new moment write (IsOk result) (IsErr result) tried (λ o. ended_ok tried (subst IsOk is o))
+    (λ e. ended_err tried (subst IsErr is e)) makes only
+
+-- where the tree isn't lost, the fault of a removal of a leaf is that it failed
+pub leaf_failed : (lost : Option (Bytes × Bytes)) (tried : Result Unit ShareFault) → lost ≡ None
+    → IfErr tried IsLeafFault → TellsLoss lost tried → IsErr tried → IsErrOf tried faults.Failed
+leaf_failed lost tried none only tells e = by tried only (subst (λ (o : Option (Bytes × Bytes)). TellsLoss o tried) none tells) e
+  where
+    by : (r : Result Unit ShareFault) → IfErr r IsLeafFault → TellsLoss None r → IsErr r → IsErrOf r faults.Failed
+    by (Ok nothing) only tells e = absurd (true≢false (sym e))
+    by (Err faults.Failed) only tells e = refl
+    by (Err (faults.TreeLost host chip)) only tells e = absurd (tells host chip refl)
+    by (Err (faults.Damaged name)) only tells e = absurd only
+    by (Err faults.NoMemory) only tells e = absurd only

@@ -1,0 +1,10 @@
+pub mod LostTrees
+pub mod ChangeTries
+pub mod OwnWrites
+pub mod LeafNames
+pub mod PinRemoved
+pub mod HeldPins
+pub mod OneStep
+pub mod PinCounted
+pub mod PinTried
+pub mod PinReset

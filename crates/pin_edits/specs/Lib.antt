@@ -1,0 +1,4 @@
+pub mod Faults
+pub mod Writes
+pub mod Tries
+pub mod Resets
