@@ -1,18 +1,20 @@
 -- A change as a try, where the tree isn't lost.
-use Rattle.std.proofs.Common.{◌≡◌, ℕ, [], ◌∷◌, Option, None, Result, Ok, Err, IsOk, IsErr, refl, sym, subst, true≢false}
+use Rattle.std.proofs.Common.{◌≡◌, ℕ, List, [], ◌∷◌, Option, None, Result, Ok, Err, IsOk, IsErr, refl, sym, ap, ◌∙◌, subst, true≢false}
 use Rattle.std.specs.Prelude.{IfErr, IsErrOf}
 use Rattle.share_api.specs.Conditions.{IsLeafFault, TellsLoss}
 use Rattle.share_api.specs.Contents.{Bytes}
-use Rattle.share_api.specs.Replies.{done_reply}
+use Rattle.share_api.specs.Replies.{done_reply, label_reply}
 use Rattle.share_api.specs.Seen.{ShareSeen, Makes, Tries, step_of}
 use Rattle.share_api.specs.declared.fault.ShareFault.{ShareFault}
 use Rattle.share_api.specs.declared.fault.ShareFault.TheVariants as faults
+use Rattle.share_api.specs.declared.step.Op.{Op}
 use Rattle.share_api.specs.declared.step.Op.TheVariants.{Do}
+use Rattle.share_api.specs.declared.step.Reply.{Reply}
 use Rattle.share_api.specs.declared.step.Write.{Write}
 use Rattle.share_api.proofs.TryLaws.{write_tries}
 use Rattle.stored_home.specs.declared.fault.StoreFault.{StoreFault}
-use Rattle.stored_home.specs.declared.fault.StoreFault.TheVariants.{Failed}
-use Rattle.pin_edits.specs.Writes.{ended}
+use Rattle.stored_home.specs.declared.fault.StoreFault.TheVariants.{Failed, NoMemory}
+use Rattle.pin_edits.specs.Writes.{ended, inserted, inserted_reply}
 
 -- it is Ok where the call was, and a fault where it was
 ended_ok : (tried : Result Unit ShareFault) → IsOk (ended tried) → IsOk tried
@@ -49,3 +51,43 @@ leaf_failed lost tried none only tells e = by tried only (subst (λ (o : Option 
     by (Err (faults.TreeLost host chip)) only tells e = absurd (tells host chip refl)
     by (Err (faults.Damaged name)) only tells e = absurd only
     by (Err faults.NoMemory) only tells e = absurd only
+
+-- where the tree isn't lost, an insert that has no label failed
+pub inserted_makes : (old new : ShareSeen) (moment : ℕ) (op : Op) (tried : Result ℕ ShareFault)
+    (result : Result ℕ StoreFault) → result ≡ inserted tried → old.lost ≡ None → IfErr tried IsLeafFault
+    → TellsLoss old.lost tried → Makes old new (step_of old moment op (label_reply tried))
+    → Makes old new (step_of old moment op (inserted_reply result))
+inserted_makes old new moment op tried result is none only tells makes =
+    subst (λ (r : Reply). Makes old new (step_of old moment op r))
+    (by tried only (subst (λ (o : Option (Bytes × Bytes)). TellsLoss o tried) none tells) ∙ ap inserted_reply (sym is)) makes
+  where
+    by : (r : Result ℕ ShareFault) → IfErr r IsLeafFault → TellsLoss None r → label_reply r ≡ inserted_reply (inserted r)
+    by (Ok label) only tells = refl
+    by (Err faults.Failed) only tells = refl
+    by (Err (faults.TreeLost host chip)) only tells = absurd (tells host chip refl)
+    by (Err (faults.Damaged name)) only tells = absurd only
+    by (Err faults.NoMemory) only tells = absurd only
+
+-- a try as another caller tells how it ended
+pub tries_told : (old new : ShareSeen) (writes : List Write) (went err ok failed : Type 0)
+    → Tries old new writes went err → (ok → went) → (failed → err) → Tries old new writes ok failed
+tries_told old new writes went err ok failed tried goes fails = record {
+  steps = tried.steps;
+  runs = tried.runs;
+  follows = tried.follows;
+  all = λ o. tried.all (goes o);
+  fails = λ f. tried.fails (fails f);
+}
+
+-- want of memory is no failed step
+pub memory_not_err : ◌≡◌ {A = Result Unit StoreFault} (Err NoMemory) (Err Failed) → ⊥
+memory_not_err e = cc e
+
+pub err_not_memory : (fault : StoreFault) (result : Result Unit StoreFault)
+    → ◌≡◌ {A = Result Unit StoreFault} (Err fault) (Err Failed) → result ≡ Err fault → result ≡ Err NoMemory → ⊥
+err_not_memory fault result failed is memory = memory_not_err (sym memory ∙ is ∙ failed)
+
+-- a fault that is a failed step is no want of memory
+pub failed_not_memory : (result : Result Unit StoreFault) → (IsErr result → IsErrOf result Failed)
+    → result ≡ Err NoMemory → ⊥
+failed_not_memory result only is = memory_not_err (sym is ∙ only (subst IsErr (sym is) refl))

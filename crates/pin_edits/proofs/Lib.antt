@@ -8,3 +8,9 @@ pub mod OneStep
 pub mod PinCounted
 pub mod PinTried
 pub mod PinReset
+pub mod LiveResets
+pub mod PinStashes
+pub mod PayloadHeld
+pub mod Inserted
+pub mod PinAdded
+pub mod PinSet

@@ -60,29 +60,28 @@ opened_text true text plain e = from_some text plain e
 opened_text false text plain e = absurd (cc e)
 
 -- what is read is there
-read_there : (r : Result Payload RecordFault) (payload : Payload) → or_fault told_record r ≡ Ok payload
+pub read_there : (r : Result Payload RecordFault) (payload : Payload) → or_fault told_record r ≡ Ok payload
     → result_ok r ≡ Some payload
 read_there (Ok x) payload e = let same : x ≡ payload = cc in ap Some same
 read_there (Err fault) payload e = absurd (cc e)
 
 -- the payload that opens under the home's main key is the one that is held
-pub payload_is : (account : Bytes) (keys : Keys) (resets : Resets) (sealed : Option Sealed) (payload : Payload)
+pub payload_whole : (account : Bytes) (keys : Keys) (resets : Resets) (sealed : Option Sealed) (payload : Payload)
     → HoldsPayload account keys resets sealed → opened_payload_of keys.main account sealed ≡ Ok payload
-    → payload.resets ≡ resets
-payload_is account keys resets None payload h e = absurd (cc e)
-payload_is account keys resets (Some sealed) payload h e =
+    → payload ≡ record { vault = keys.vault; resets = resets }
+payload_whole account keys resets None payload h e = absurd (cc e)
+payload_whole account keys resets (Some sealed) payload h e =
     by (opened keys.main (payload_extra account) sealed) refl e
   where
-    by : (o : Option Bytes) → opened keys.main (payload_extra account) sealed ≡ o
-        → payload_or_fault o ≡ Ok payload → payload.resets ≡ resets
+    by : (o : Option Bytes) → opened keys.main (payload_extra account) sealed ≡ o → payload_or_fault o ≡ Ok payload
+        → payload ≡ record { vault = keys.vault; resets = resets }
     by None is e = absurd (cc e)
     by (Some plain) is e =
         let text : h.text ≡ plain = sym h.opens.text ∙ opened_text
         (bytes_eq sealed.tag (tag_of 8 14 keys.main sealed.iv (payload_extra account) sealed.text))
         (decrypted 8 14 keys.main sealed.iv sealed.text) plain is in
-        let same : Some payload ≡ Some (record { vault = keys.vault; resets = resets }) =
-        sym (read_there (payload_read plain) payload e) ∙ ap payload_at (sym text) ∙ h.read in
-        ap (λ (p : Payload). p.resets) (from_some payload (record { vault = keys.vault; resets = resets }) same)
+        from_some payload (record { vault = keys.vault; resets = resets })
+        (sym (read_there (payload_read plain) payload e) ∙ ap payload_at (sym text) ∙ h.read)
 
 -- ---- the step
 
@@ -168,10 +167,11 @@ module _ (account : Bytes) (stored : Stored) (label : Bytes) (row : FactorRecord
 
     -- the payload's reset secret is the leaf's
     resets_are : made.payload.resets ≡ held.held.resets
-    resets_are = payload_is account keys held.held.resets held.stash.payload made.payload (held.held.payload held.some)
+    resets_are = ap (λ (p : Payload). p.resets) (payload_whole account keys held.held.resets held.stash.payload
+        made.payload (held.held.payload held.some)
         (subst (λ (t : Bytes × Bytes × Stash). opened_payload_of t.0 t.1 t.2.payload ≡ Ok made.payload)
         (λ i. (sym starts.asked.main_is i, (ap (λ (s : Stash). s.account) same_stash ∙ held.held.account_is) i, same_stash i))
-        made.opened)
+        made.opened))
       where
         same_stash : stash ≡ held.stash
         same_stash = from_some stash held.stash (sym stash_is ∙ held.is)

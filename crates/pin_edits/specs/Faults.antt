@@ -37,6 +37,20 @@ IsResetFault account label edition tree (Damaged name) =
 IsResetFault account label edition tree NoMemory = Unit {0}
 IsResetFault account label edition tree (TreeLost host chip) = Unit {0}
 
+-- the faults of an edit that sets a PIN where the tree isn't lost
+abbrev pub IsHeldFault : Bytes → StoreFault → Type 0
+IsHeldFault account Failed = Unit {0}
+IsHeldFault account (Damaged name) = name ≡ stash_name account
+IsHeldFault account NoMemory = Unit {0}
+IsHeldFault account (TreeLost host chip) = ⊥
+
+-- the faults of an edit that sets a PIN: a damaged record is the stash's
+abbrev pub IsSetFault : Bytes → StoreFault → Type 0
+IsSetFault account Failed = Unit {0}
+IsSetFault account (Damaged name) = name ≡ stash_name account
+IsSetFault account NoMemory = Unit {0}
+IsSetFault account (TreeLost host chip) = Unit {0}
+
 -- an edit of a PIN is refused where the tree is lost, with its roots
 abbrev pub tree_test : Option LostTree → Result Unit StoreFault
 tree_test None = Ok tt

@@ -2,3 +2,4 @@ pub mod Faults
 pub mod Writes
 pub mod Tries
 pub mod Resets
+pub mod Pins

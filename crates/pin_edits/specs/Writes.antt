@@ -1,9 +1,14 @@
 -- Changes that are to be made.
-use Rattle.std.specs.Prelude.{◌≡◌, ◌≤◌, Option, Some, Result, Ok, Err, length}
-use Rattle.record_names.specs.Names.{stash_name}
+use Rattle.std.specs.Prelude.{◌≡◌, ℕ, ◌≤◌, Option, Some, Result, Ok, Err, length}
+use Rattle.factor_files.specs.Record.{factor_at}
+use Rattle.factor_files.specs.declared.factor.FactorRecord.{FactorRecord}
+use Rattle.record_names.specs.Names.{stash_name, factor_name}
 use Rattle.share_api.specs.Conditions.{IsOwnName}
 use Rattle.share_api.specs.Contents.{Bytes}
 use Rattle.share_api.specs.declared.fault.ShareFault.{ShareFault}
+use Rattle.share_api.specs.declared.step.Reply.{Reply}
+use Rattle.share_api.specs.declared.step.Reply.TheVariants as replies
+use Rattle.share_api.specs.declared.step.Reply.TheVariants.{Labelled}
 use Rattle.share_api.specs.declared.step.Write.{Write}
 use Rattle.share_api.specs.declared.step.Write.TheVariants.{Put, Remove, RemoveLeaf}
 use Rattle.stash_format.specs.declared.contents.Contents.{Contents as Stash}
@@ -27,4 +32,21 @@ pub record IsStashWrite (account : Bytes) (stash : Stash) (write : Write) : Type
   pub bytes : Bytes
   pub write_is : write ≡ Put (stash_name account) bytes
   pub read : stash_at bytes ≡ Some stash
+  pub size : length bytes ≤ 49181
+
+-- how the insert of a leaf ended: each fault of it is that it failed
+abbrev pub inserted : Result ℕ ShareFault → Result ℕ StoreFault
+inserted (Ok label) = Ok label
+inserted (Err fault) = Err Failed
+
+-- the reply that this end stands for
+abbrev pub inserted_reply : Result ℕ StoreFault → Reply
+inserted_reply (Ok label) = Labelled label
+inserted_reply (Err fault) = replies.Failed
+
+-- the change puts the record of this factor
+pub record IsRowWrite (account : Bytes) (row : FactorRecord) (write : Write) : Type 0 where
+  pub bytes : Bytes
+  pub write_is : write ≡ Put (factor_name account row.label row.edition) bytes
+  pub read : factor_at bytes ≡ Some row
   pub size : length bytes ≤ 49181

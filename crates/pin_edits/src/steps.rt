@@ -1,10 +1,14 @@
 //! The device steps of edits, in order.
 
-ghost use Rattle.std.specs.Prelude.{◌≡◌, ◌≤◌, ◌<◌, ◌+◌, ◌^◌, [], ◌∷◌, IsOk, IsErr, IsErrOf, None};
-ghost use Rattle.share_api.specs.Seen.{Tries};
-ghost use Rattle.pin_edits.specs.Writes.{IsOwnWrite, ended};
+ghost use Rattle.std.specs.Prelude.{◌≡◌, ◌≤◌, ◌<◌, ◌+◌, ◌^◌, [], ◌∷◌, IsOk, IsErr, IsErrOf, IfErr, None};
+ghost use Rattle.share_api.specs.Seen.{Makes, Tries, step_of};
+ghost use Rattle.share_api.specs.declared.step.Op.{Op};
+ghost use Rattle.share_api.specs.declared.step.Write.{Write};
+ghost use Rattle.home_edits.specs.Edits.{IsEditFault};
+ghost use Rattle.pin_edits.specs.Writes.{IsOwnWrite, ended, inserted, inserted_reply};
 
-use share_api::{Share, ShareFault, Write};
+use pw_path::Label;
+use share_api::{NewLeaf, Share, ShareFault, Write};
 use stored_home::StoreFault;
 
 // How a change ended, where the tree isn't lost.
@@ -79,4 +83,53 @@ pub(crate) fn change_three<S: Share>(
 {
     change(share, first, moment)?;
     change_both(share, second, third, moment)
+}
+
+// How the insert of a leaf ended, where the tree isn't lost.
+fn inserted(tried: Result<Label, ShareFault>) -> Result<Label, StoreFault>
+    ensures value { result ≡ inserted tried }
+{
+    match tried {
+        Ok(label) => Ok(label),
+        Err(_) => Err(StoreFault::Failed),
+    }
+}
+
+/// Makes a leaf.
+pub(crate) fn insert<S: Share>(
+    share: &mut S,
+    leaf: &NewLeaf,
+    moment: u64,
+) -> Result<Label, StoreFault>
+    requires spare { 1 ≤ (S.seen share.old).spare }
+    requires moment { moment < 2 ^ 40 }
+    requires tree { (S.seen share.old).lost ≡ None }
+    ensures made { Makes (S.seen share.old) (S.seen share.new)
+        (step_of (S.seen share.old) moment (Op.InsertLeaf leaf.now) (inserted_reply result)) }
+    ensures only { IsErr result → IsErrOf result StoreFault.Failed }
+    ensures owner { (S.seen share.new).owner ≡ (S.seen share.old).owner }
+    ensures spare { (S.seen share.new).spare + 1 ≡ (S.seen share.old).spare }
+    ensures lost { (S.seen share.new).lost ≡ (S.seen share.old).lost }
+    ensures goes { S.goes share.old share.new }
+{
+    inserted(share.insert_leaf(leaf, moment))
+}
+
+/// Takes a new leaf away again, where there was no memory to name it.
+pub(crate) fn give_back<S: Share>(
+    share: &mut S,
+    tree: Label,
+    moment: u64,
+) -> Result<(), StoreFault>
+    requires spare { 1 ≤ (S.seen share.old).spare }
+    requires moment { moment < 2 ^ 40 }
+    requires tree { (S.seen share.old).lost ≡ None }
+    ensures tried { Tries (S.seen share.old) (S.seen share.new) (Write.RemoveLeaf tree ∷ [])
+        (IsErrOf result StoreFault.NoMemory) (IsErrOf result StoreFault.Failed) }
+    ensures none { IsOk result → ⊥ }
+    ensures only { IfErr result IsEditFault }
+    ensures goes { S.goes share.old share.new }
+{
+    change(share, Write::RemoveLeaf(tree), moment)?;
+    Err(StoreFault::NoMemory)
 }

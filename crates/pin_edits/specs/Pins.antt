@@ -1,0 +1,104 @@
+-- New PINs: their leaves, records and blocks, and what their edits ask.
+use Rattle.std.specs.Prelude.{◌≡◌, ◌⊎◌, ℕ, ◌≤◌, List, [], ◌∷◌, None, Some, Result, Ok, Err, IsOk, IsErr, length, take}
+use Rattle.std.specs.FinMap.{insert, len}
+use Rattle.account_machine.specs.declared.factor.Kind.TheVariants.{Pin}
+use Rattle.account_machine.specs.declared.user.Durable.{Durable}
+use Rattle.account_machine.specs.Effect.{with_factor}
+use Rattle.factor_files.specs.declared.factor.FactorRecord.{FactorRecord}
+use Rattle.scrypt_kdf.specs.Derive.{derive}
+use Rattle.sealed_text.specs.declared.sealed.Sealed.{Sealed}
+use Rattle.secret_stash.specs.Edits.{live_resets}
+use Rattle.secret_stash.specs.Keys.{new_block, opened_payload, opened_sealed, pin_wrap}
+use Rattle.share_api.specs.Contents.{Bytes, Contents}
+use Rattle.share_api.specs.Folds.{Fold}
+use Rattle.share_api.specs.Seen.{ShareSeen, Tries}
+use Rattle.share_api.specs.Steps.{Does}
+use Rattle.share_api.specs.declared.step.Write.{Write}
+use Rattle.share_api.specs.declared.step.Write.TheVariants.{RemoveLeaf}
+use Rattle.share_api.specs.declared.leaf.NewLeaf.{NewLeaf}
+use Rattle.stash_format.specs.Resets.{Resets}
+use Rattle.stash_format.specs.Sizes.{most_payload}
+use Rattle.stash_format.specs.declared.block.Block.{Block}
+use Rattle.stash_format.specs.declared.contents.Contents.{Contents as Stash}
+use Rattle.stash_format.specs.declared.payload.Payload.{Payload}
+use Rattle.stored_home.specs.Bounds.{HasBounds}
+use Rattle.stored_home.specs.Changes.{stash_with}
+use Rattle.stored_home.specs.Holds.{Keys}
+use Rattle.stored_home.specs.declared.derived.Derived.{Derived}
+use Rattle.stored_home.specs.declared.fault.StoreFault.{StoreFault}
+use Rattle.stored_home.specs.declared.fault.StoreFault.TheVariants.{Failed, NoMemory}
+use Rattle.stored_home.specs.declared.stored.Stored.{Stored}
+use Rattle.home_edits.specs.Edits.{Edits}
+use Rattle.pin_edits.specs.Writes.{IsRowWrite}
+use Rattle.pin_edits.specs.declared.pin_stash.NewPin.{NewPin}
+
+-- the leaf of a PIN that was never tried
+abbrev pub pin_leaf : NewPin → NewLeaf
+pin_leaf pin =
+    record { les = take 32 pin.derived.key; hes = pin.high; reset = pin.reset; schedule = pin.schedule }
+
+-- the record of a PIN of this edition, whose leaf has this label
+abbrev pub pin_row : Bytes → ℕ → Derived → ℕ → FactorRecord
+pin_row label edition derived tree = record {
+    kind = Pin;
+    label = label;
+    edition = edition;
+    cost = derived.cost;
+    salt = derived.salt;
+    leaf = Some tree;
+  }
+
+-- the block of a PIN of the stash's next edition: the main key under its wrap key
+abbrev pub pin_block : Stash → Bytes → NewPin → Bytes → Bytes → Block
+pin_block stash label pin main iv =
+    new_block stash.account label stash.next (pin_wrap pin.high pin.derived.key) main iv
+
+-- the reset secrets with one of the label's PIN of this edition
+abbrev pub with_reset : Resets → Bytes → ℕ → Bytes → Resets
+with_reset resets label edition secret = insert resets label (record { edition = edition; secret = secret })
+
+-- the payload that the stash opens to, with the PIN's reset secret of the next edition. It has at most 16
+pub record AddsReset (stash : Stash) (main label secret : Bytes) (made : Payload) : Type 0 where
+  pub old : Payload
+  pub opened : opened_payload stash main ≡ Ok old
+  pub vault : made.vault ≡ old.vault
+  pub resets : made.resets ≡ with_reset old.resets label stash.next secret
+  pub few : len made.resets ≤ 16
+
+-- the stash with the PIN's block, and its payload sealed anew with the PIN's reset secret
+pub record IsPinStash (stash : Stash) (label : Bytes) (pin : NewPin) (main iv : Bytes) (made : Stash) : Type 0 where
+  pub old : Payload
+  pub opened : opened_payload stash main ≡ Ok old
+  pub payload : Sealed
+  pub made_is : made ≡ stash_with stash (Some payload) label (pin_block stash label pin main iv)
+  pub opens : opened_sealed main stash.account payload ≡ Ok (record {
+    vault = old.vault;
+    resets = live_resets (insert stash.blocks label (pin_block stash label pin main iv))
+        (with_reset old.resets label stash.next pin.reset);
+  })
+  pub short : length payload.text ≤ most_payload
+
+-- A PIN is set: the main key is the home's, the key is derived of the secret, and after it the label's factor is a PIN
+-- with this secret, of the next edition, that was never tried.
+pub record SetsPin (label : Bytes) (pin : NewPin) (main : Bytes) (contents : Contents) (keys : Keys)
+    (before after : Durable) : Type 0 where
+  pub secret : Bytes
+  pub main_is : keys.main ≡ main
+  pub key_is : pin.derived.key ≡ derive secret pin.derived.salt pin.derived.cost
+  pub after_is : after ≡ with_factor before label Pin secret pin.schedule
+  pub bounds : HasBounds after
+
+-- Once the leaf of a PIN's record is inserted the record is put, and then the stash. Where there was no memory for the
+-- record, the leaf is removed again.
+abbrev pub PutsPin : ShareSeen → ShareSeen → Bytes → FactorRecord → ℕ → Write → Result Unit StoreFault → Type 0
+PutsPin old new account row tree put result =
+    ((write : Write) × IsRowWrite account row write × (result ≡ Err NoMemory → ⊥)
+    × Tries old new (write ∷ put ∷ []) (IsOk result) (result ≡ Err Failed))
+    ⊎ ((IsOk result → ⊥) × Tries old new (RemoveLeaf tree ∷ []) (result ≡ Err NoMemory) (result ≡ Err Failed))
+
+-- The edit of a PIN which changes nothing where it is refused.
+pub record EditsPin (old new : ShareSeen) (account : Bytes) (stored after : Stored) (result : Result Unit StoreFault)
+    (Asks : Contents → Keys → Durable → Durable → Type 0) : Type 0 where
+  pub edits : Edits old new account stored after (IsOk result) (result ≡ Err Failed) Asks
+  pub refused : IsErr result → (result ≡ Err Failed → ⊥) → (contents end : Contents) → contents.doubt ≡ None
+      → Fold (Does old.era) contents edits.steps end → end ≡ contents
