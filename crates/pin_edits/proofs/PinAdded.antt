@@ -269,9 +269,11 @@ back_suits old account stored later label pin main tree ok none = record {
       let fresh = fresh_leaf_held false account keys contents before tree starts.kept.clear (leaf_of (pin_leaf pin)) free
       starts.holds in
       throughout_follows old.era (with_leaf contents tree (leaf_of (pin_leaf pin))) (RemoveLeaf tree ∷ []) steps
-      (HoldsEither false account keys before next) starts.kept.clear
-      (inl fresh, inl (subst (λ c. HoldsUnder false c account before keys)
-      (sym (ap (λ (l : Leaves). record contents { leaves = l })
-      (leaf_undone contents.leaves tree (leaf_of (pin_leaf pin)) free))) starts.holds)) follows;
+      (HoldsEither false account keys before next) starts.kept.clear (
+        inl fresh,
+        inl (subst (λ c. HoldsUnder false c account before keys)
+            (sym (ap (λ (l : Leaves). record contents { leaves = l })
+            (leaf_undone contents.leaves tree (leaf_of (pin_leaf pin)) free))) starts.holds),
+      ) follows;
   last = λ o. absurd (none o);
 }

@@ -40,13 +40,13 @@ pin_leaf pin =
 -- the record of a PIN of this edition, whose leaf has this label
 abbrev pub pin_row : Bytes → ℕ → Derived → ℕ → FactorRecord
 pin_row label edition derived tree = record {
-    kind = Pin;
-    label = label;
-    edition = edition;
-    cost = derived.cost;
-    salt = derived.salt;
-    leaf = Some tree;
-  }
+  kind = Pin;
+  label = label;
+  edition = edition;
+  cost = derived.cost;
+  salt = derived.salt;
+  leaf = Some tree;
+}
 
 -- the block of a PIN of the stash's next edition: the main key under its wrap key
 abbrev pub pin_block : Stash → Bytes → NewPin → Bytes → Bytes → Block

@@ -130,14 +130,24 @@ fn put_named<S: Share>(
     requires most { derived.now.cost ≤ 16 }
     ensures puts { PutsPin (S.seen share.old) (S.seen share.new) account.now
         (pin_row label.now edition derived.now tree) tree put result }
-    ensures ok { OnOk result (stored.new ≡ record stored.old { stash = Some stash;
-        factors = insert stored.old.factors label.now (pin_row label.now edition derived.now tree) }) }
+    ensures ok { OnOk result (stored.new ≡ record stored.old {
+      stash = Some stash;
+      factors = insert stored.old.factors label.now (pin_row label.now edition derived.now tree);
+    }) }
     ensures err { OnErr result (stored.new ≡ stored.old) }
     ensures lost { stored.new.lost ≡ stored.old.lost }
     ensures only { IfErr result IsEditFault }
     ensures goes { S.goes share.old share.new }
 {
-    match with_row(alloc, account, &stored.factors, label, edition, derived, tree) {
+    match with_row(
+        alloc,
+        account,
+        &stored.factors,
+        label,
+        edition,
+        derived,
+        tree,
+    ) {
         Ok((factors, row_put)) => commit(stored, share, stash, factors, row_put, put, moment),
         Err(_) => give_back(share, tree, moment),
     }

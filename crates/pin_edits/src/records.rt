@@ -28,11 +28,7 @@ pub(crate) fn stash_write(account: &str, stash: &Stash) -> Result<Write, NoMemor
 }
 
 /// The put of a factor's record.
-pub(crate) fn row_write(
-    alloc: Global,
-    account: &str,
-    row: &FactorRecord,
-) -> Result<Write, NoMemory>
+pub(crate) fn row_write(alloc: Global, account: &str, row: &FactorRecord) -> Result<Write, NoMemory>
     requires plain { IsTrue (is_account_name account.now) }
     requires row { IsFactor row.now }
     ensures value { IfOk result (IsRowWrite account.now row.now) }

@@ -116,11 +116,7 @@ pub(crate) fn insert<S: Share>(
 }
 
 /// Takes a new leaf away again, where there was no memory to name it.
-pub(crate) fn give_back<S: Share>(
-    share: &mut S,
-    tree: Label,
-    moment: u64,
-) -> Result<(), StoreFault>
+pub(crate) fn give_back<S: Share>(share: &mut S, tree: Label, moment: u64) -> Result<(), StoreFault>
     requires spare { 1 ≤ (S.seen share.old).spare }
     requires moment { moment < 2 ^ 40 }
     requires tree { (S.seen share.old).lost ≡ None }
