@@ -10,7 +10,7 @@ use Rattle.platform_core.specs.Standing.{AreThere}
 use Rattle.platform_core.proofs.ShownLemmas.{right_shows, one_shown}
 use Rattle.platform_core.proofs.BoardLemmas.{of_told}
 use Rattle.board_device.specs.Device.{platform_of, board_of, accounts_of}
-use Rattle.board_device.specs.Standing.{StandsTo, IsOpened, contents_of, images_since, AreLed}
+use Rattle.board_device.specs.Standing.{StandsTo, IsOpened, contents_of, images_since, images_now, AreLed}
 use Rattle.board_device.specs.declared.device.BoardDevice.{BoardDevice}
 
 module _ {B : Type 0} (disk_of : B → Disk) (first now : BoardDevice B) (chain : List Step)
@@ -30,19 +30,25 @@ module _ {B : Type 0} (disk_of : B → Disk) (first now : BoardDevice B) (chain 
             (one_shown (accounts_of first) has.0 h.0 parts h.1 has.2) h.5,
       )
 
-  -- what is there, which is one of the images
+  -- each image that a crash may leave now
+  pub last_led : (parts : ByAccount Contents) → images_now disk_of now parts → AreLed disk_of first now chain parts
+  last_led parts has =
+      let h = (stands.platform.stands opened (contents_of disk_of first) begun).image has.0 has.1 in
+      subst (λ (f : ByAccount Contents). AreLed disk_of first now chain f)
+      (one_shown (accounts_of first) has.0 h.0 parts h.1
+      (subst (λ (names : List Bytes). Shows names has.0 parts) stands.accounts has.2)) h.2
+
+  -- what is there, which is one of these images
   pub now_led : ((image : Image) → (disk_of (board_of now)).now ≡ Some image → (disk_of (board_of now)).may_leave image)
       → AreLed disk_of first now chain (contents_of disk_of now)
   now_led left =
       let right = stands.platform.right opened in
-      let h = (stands.platform.stands opened (contents_of disk_of first) begun).image right.now
-      (left right.now right.told) in
-      let there : AreThere (accounts_of first) (disk_of (board_of now)) (contents_of disk_of now) =
-      subst (λ (names : List Bytes). AreThere names (disk_of (board_of now)) (contents_of disk_of now)) stands.accounts
-      (right_shows (accounts_of now) (disk_of (board_of now)) (memory_of (platform_of now))
-      (is_unsettled (platform_of now)) right) in
-      let shown : Shows (accounts_of first) right.now (contents_of disk_of now) =
-      of_told (λ (image : Image). Shows (accounts_of first) image (contents_of disk_of now))
-      (disk_of (board_of now)).now right.now there right.told in
-      subst (λ (f : ByAccount Contents). AreLed disk_of first now chain f)
-      (one_shown (accounts_of first) right.now h.0 (contents_of disk_of now) h.1 shown) h.2
+      let there : AreThere (accounts_of now) (disk_of (board_of now)) (contents_of disk_of now) =
+      right_shows (accounts_of now) (disk_of (board_of now)) (memory_of (platform_of now))
+      (is_unsettled (platform_of now)) right in
+      last_led (contents_of disk_of now) (
+        right.now,
+        left right.now right.told,
+        of_told (λ (image : Image). Shows (accounts_of now) image (contents_of disk_of now))
+            (disk_of (board_of now)).now right.now there right.told,
+      )

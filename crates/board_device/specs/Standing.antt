@@ -1,7 +1,7 @@
 -- What a device is to the one that a run began with, and to the steps since.
 use Rattle.std.specs.Prelude.{◌≡◌, ℕ, List, [], ◌∷◌, ◌++◌, false, None, Result}
 use Rattle.fault_count.specs.Causes.{HasCause}
-use Rattle.board_model.specs.Disk.{Disk}
+use Rattle.board_model.specs.Disk.{Image, Disk}
 use Rattle.share_api.specs.Contents.{Contents}
 use Rattle.share_api.specs.Steps.{Does}
 use Rattle.share_api.specs.declared.fault.ShareFault.{ShareFault}
@@ -41,6 +41,11 @@ module _ {B : Type 0} (disk_of : B → Disk) where
   abbrev pub images_since : BoardDevice B → BoardDevice B → ByAccount Contents → Type 0
   images_since first now parts =
       shown_since (Shows (accounts_of first)) (disk_of (board_of now)) (disk_of (board_of first)).ticks parts
+
+  -- what the images show that a crash may leave now
+  abbrev pub images_now : BoardDevice B → ByAccount Contents → Type 0
+  images_now device parts =
+      (image : Image) × (disk_of (board_of device)).may_leave image × Shows (accounts_of device) image parts
 
   -- each account's steps in the chain lead from what it had at first to its part of these, by contents that images had
   abbrev pub AreLed : BoardDevice B → BoardDevice B → List Step → ByAccount Contents → Type 0

@@ -10,7 +10,7 @@ ghost use Rattle.platform_core.specs.Held as held;
 ghost use Rattle.platform_core.specs.declared.platform.Platform.{Platform};
 ghost use Rattle.share_api.specs.Contents.{Bytes, Contents};
 ghost use Rattle.share_api.specs.declared.step.Step.{Step};
-ghost use Rattle.board_device.specs.Standing.{StandsTo, IsOpened, AreLed, contents_of, images_since};
+ghost use Rattle.board_device.specs.Standing.{StandsTo, IsOpened, AreLed, contents_of, images_now, images_since};
 ghost use Rattle.board_device.specs.declared.device.BoardDevice.{BoardDevice};
 
 use board_model::Board;
@@ -24,8 +24,8 @@ pub fn found_accounts_have_names<B: Board>()
         → IsTrue (list_all is_account_name (accounts_of platform)) }
 {}
 
-/// Each image since the opening has of all accounts what their steps among the first so many lead to, and what is
-/// there is what all of them lead to.
+/// Each image since the opening has of all accounts what their steps among the first so many lead to. What is there is
+/// what all of them lead to, and so is what each image has that a crash may leave now.
 pub fn images_are_led_by_the_first_steps<B: Board>()
     ensures image { (first now : BoardDevice B) (chain : List Step) (parts : ByAccount Contents)
         → StandsTo B.disk first now chain
@@ -36,4 +36,9 @@ pub fn images_are_led_by_the_first_steps<B: Board>()
         → StandsTo B.disk first now chain
         → IsOpened B.disk first
         → AreLed B.disk first now chain (contents_of B.disk now) }
+    ensures last { (first now : BoardDevice B) (chain : List Step) (parts : ByAccount Contents)
+        → StandsTo B.disk first now chain
+        → IsOpened B.disk first
+        → images_now B.disk now parts
+        → AreLed B.disk first now chain parts }
 {}

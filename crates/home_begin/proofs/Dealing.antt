@@ -1,12 +1,20 @@
 -- The locks of accounts and their seats, apart and together again.
-use Rattle.std.proofs.Common.{◌≡◌, ℕ, suc, ◌+◌, List, [], ◌∷◌, ◌++◌, map, length, All, Option, refl, sym, ap, ◌∙◌, subst, arith}
-use Rattle.std.specs.List.{AllByRecursion}
+use Rattle.std.proofs.Common.{◌≡◌, ℕ, suc, ◌+◌, ◌<◌, List, [], ◌∷◌, ◌++◌, map, length, reverse, All, Option, None, Some, inl, refl, sym, ap, ◌∙◌, subst, arith}
+use Rattle.std.specs.List.{AllByRecursion, range_with_len}
+use Rattle.std.specs.Prelude.{IfNone, IfSome}
 use Rattle.pw_types.specs.declared.era.Era.{Era}
-use Rattle.turn_lock.specs.Seats.{Lock, LockId, SeatView, HasEachNumber, first_seat}
-use Rattle.client_seats.specs.Gathering.{IsWholeSeat}
+use Rattle.share_api.specs.declared.step.Step.{Step}
+use Rattle.turn_lock.specs.Lists.{count_of}
+use Rattle.turn_lock.specs.Seats.{Lock, LockId, SeatView, HasEachNumber, first_seat, numbers_of}
+use Rattle.turn_lock.proofs.Counts.{count_of-range_with_len}
+use Rattle.platform_lock.specs.Devices.{DeviceSeen}
 use Rattle.home_locks.specs.declared.account.Entry.{Entry}
 use Rattle.turn_meaning.specs.declared.taken.TurnTaken.{TurnTaken}
 use Rattle.home_opening.specs.Locks.{AccountSeen, AreNewLocks}
+use Rattle.home_opening.specs.Numbers.{AreSameNumbers, known_at, known_by}
+use Rattle.home_opening.specs.Opened.{AreOpenedLocks, KnowsOpenings}
+use Rattle.home_opening.specs.declared.opening.Opening.{Opening}
+use Rattle.home_opening.proofs.KnownLemmas.{openings_alone}
 
 -- ---- lists and their images
 
@@ -24,11 +32,6 @@ pub same_images : {A X Y Z : Type 0} (g : X → Y) (f : A → X) (h : Z → Y) (
     → map g (map f xs) ≡ map h (map k xs)
 same_images g f h k [] same = refl
 same_images g f h k (x ∷ xs) same = λ i. same x i ∷ same_images g f h k xs same i
-
--- the same of one list and the image of another
-pub images_of : {A X Y : Type 0} (g : X → Y) (f : A → X) (xs : List A) → map g (map f xs) ≡ map (λ x. g (f x)) xs
-images_of g f [] = refl
-images_of g f (x ∷ xs) = ap (λ (rest : List _). g (f x) ∷ rest) (images_of g f xs)
 
 module _ {X T : Type 0} (lock_of : X → Lock T) (seat_of : X → SeatView (Entry TurnTaken)) (f : X → AccountSeen)
     (lock_is : (x : X) → (f x).at.lock ≡ (lock_of x).id) (seat_is : (x : X) → (f x).client ≡ seat_of x)
@@ -49,30 +52,45 @@ module _ {X T : Type 0} (lock_of : X → Lock T) (seat_of : X → SeatView (Entr
   seats_are (x ∷ xs) new = λ i.
       (sym (seat_is x) ∙ new.0.1.first ∙ ap first_seat (lock_is x)) i ∷ seats_are xs new.1 i
 
-  whole_seat : (x : X) (lock : Lock T) (seat : SeatView (Entry TurnTaken)) → lock ≡ lock_of x → seat ≡ seat_of x
-      → AreNewLocks shared era clients (f x ∷ [])
-      → IsWholeSeat lock.id seat
-  whole_seat x lock seat lock_same seat_same new =
-      subst (λ (l : Lock T). IsWholeSeat l.id seat) (sym lock_same)
-      (subst (IsWholeSeat (lock_of x).id) (sym seat_same)
-      (subst (IsWholeSeat (lock_of x).id) (seat_is x)
-      (subst (λ (id : LockId). IsWholeSeat id (f x).client) (lock_is x) (record {
-        of = ap (λ (s : SeatView (Entry TurnTaken)). s.lock) new.0.1.first;
-        numbers = new.0.1.numbers;
-      }))))
+-- ---- together again
 
-  -- so together again each has all numbers of its lock
-  pub whole_seats : {W : Type 0} (lock_in : W → Lock T) (seat_in : W → SeatView (Entry TurnTaken)) (ws : List W)
-      (xs : List X)
-      → map lock_in ws ≡ map lock_of xs
-      → map seat_in ws ≡ map seat_of xs
-      → AreNewLocks shared era clients (map f xs)
-      → AllByRecursion (λ w. IsWholeSeat (lock_in w).id (seat_in w)) ws
-  whole_seats lock_in seat_in [] xs locks seats new = tt
-  whole_seats lock_in seat_in (w ∷ ws) [] locks seats new =
-      absurd (let long = ap length locks in omega (arith, long))
-  whole_seats lock_in seat_in (w ∷ ws) (x ∷ xs) locks seats new = (
-    whole_seat x (lock_in w) (seat_in w) (ap (head_or (lock_in w)) locks) (ap (head_or (seat_in w)) seats)
-        (new.0, tt),
-    whole_seats lock_in seat_in ws xs (ap rest_of locks) (ap rest_of seats) new.1,
-  )
+module _ {X T : Type 0} (lock_of : X → Lock T) (seat_of : X → SeatView (Entry TurnTaken)) (f : X → AccountSeen)
+    (same : (x y : X) → lock_of x ≡ lock_of y → seat_of x ≡ seat_of y → f x ≡ f y) where
+  -- accounts with the same locks and seats are the same
+  pub same_accounts : (xs ys : List X) → map lock_of xs ≡ map lock_of ys → map seat_of xs ≡ map seat_of ys
+      → map f xs ≡ map f ys
+  same_accounts [] [] locks seats = refl
+  same_accounts [] (y ∷ ys) locks seats = absurd (let long = ap length locks in omega (arith, long))
+  same_accounts (x ∷ xs) [] locks seats = absurd (let long = ap length locks in omega (arith, long))
+  same_accounts (x ∷ xs) (y ∷ ys) locks seats = λ i.
+      same x y (ap (head_or (lock_of x)) locks) (ap (head_or (seat_of x)) seats) i
+      ∷ same_accounts xs ys (ap rest_of locks) (ap rest_of seats) i
+
+-- a seat that has as often the numbers of all accounts has each number
+pub each_counted : (shared : LockId) (accounts : ℕ) (numbers : List ℕ) (seat : SeatView Step)
+    → seat.lock ≡ shared
+    → shared.callers ≡ accounts
+    → numbers ≡ range_with_len 0 accounts
+    → AreSameNumbers (numbers_of seat) numbers
+    → HasEachNumber seat
+each_counted shared accounts numbers seat of callers are same number below =
+    let many : seat.lock.callers ≡ shared.callers = ap (λ (lock : LockId). lock.callers) of in
+    let once = (count_of-range_with_len 0 accounts number).inside (omega arith)
+    (omega (arith, many, callers, below)) in
+    let here = same number in
+    let there = ap (count_of number) are in
+    omega (arith, once, here, there)
+
+-- The seat with all numbers knows of openings alone: it is the lock's first one where there is no account, and knows
+-- what all accounts knew where there are some.
+pub whole_knows : (device : DeviceSeen) (shared : LockId) (opening : Opening) (idle : Option (SeatView Step))
+    (whole : SeatView Step) (accounts : List AccountSeen)
+    → IfSome idle (λ seat. seat ≡ first_seat shared)
+    → IfSome idle (λ seat. whole ≡ seat)
+    → IfNone idle (known_by whole ≡ reverse (known_at accounts))
+    → AreOpenedLocks device shared opening accounts
+    → KnowsOpenings device shared opening whole
+whole_knows device shared opening None whole accounts first is known opened =
+    openings_alone device shared opening whole accounts known opened
+whole_knows device shared opening (Some seat) whole accounts first is known opened =
+    subst (KnowsOpenings device shared opening) (sym (is ∙ first)) (inl refl, tt)

@@ -3,5 +3,6 @@ mod Begun
 mod Dealing
 mod DeviceLemmas
 mod Failures
+mod Kept
 mod Stopping
 mod Whole

@@ -1,5 +1,5 @@
 -- What the beginning of a home finds and leaves.
-use Rattle.std.specs.Prelude.{◌≡◌, ◌⊎◌, ℕ, max, true, List, length, Option, Err}
+use Rattle.std.specs.Prelude.{◌≡◌, ◌⊎◌, ◌<◌, ℕ, max, true, List, length, All, Option, Err}
 use Rattle.fault_count.specs.Causes.{HasCause}
 use Rattle.board_model.specs.Disk.{Disk, Image, Goes, Leaves}
 use Rattle.cabinet.specs.Edits.{Agrees}
@@ -20,12 +20,13 @@ use Rattle.request_turns.specs.Named.{are_apart}
 use Rattle.share_api.specs.Seen.{HasFailed, ShareSeen}
 use Rattle.share_api.specs.declared.step.Step.{Step}
 use Rattle.stored_home.specs.declared.fault.StoreFault.{StoreFault}
-use Rattle.turn_lock.specs.Seats.{LockId, SeatView}
-use Rattle.platform_lock.specs.Devices.{IsServed}
+use Rattle.turn_lock.specs.Lists.{entries_of}
+use Rattle.turn_lock.specs.Seats.{LockId, SeatView, Recalls}
+use Rattle.platform_lock.specs.Devices.{IsServed, account_of}
 use Rattle.board_device.specs.Device.{era_of, seen_by}
 use Rattle.board_device.specs.Standing.{StandsTo}
 use Rattle.home_seats.specs.Seats.{LockSeen}
-use Rattle.home_opening.specs.Opened.{AreOpenedFrom, OpensAt, told_fault}
+use Rattle.home_opening.specs.Opened.{AreOpenedFrom, AreOpeningSteps, IsOwner, OpensAt, told_fault}
 use Rattle.home_opening.specs.declared.opening.Opening.{Opening}
 use Rattle.user_home.specs.Ending.{IsIdle}
 use Rattle.home_opening.specs.declared.fault.HomeFault.{HomeFault}
@@ -72,24 +73,39 @@ module _ {B : Type 0} (disk_of : B → Disk) (faults_of : B → ℕ) where
     pub opened : AreOpenedFrom (seen_by faults_of device) shared opening 0 names locks
     pub idle_is : IsIdle shared (length locks) idle
 
-  -- An account was refused for this fault of its store.
-  pub record IsRefusedBy (device : BoardDevice B) (opening : Opening) (fault : HomeFault) : Type 0 where
-    pub shared : LockId
-    pub account : ℕ
-    pub name : Bytes
-    pub own : List (ℕ × Step)
-    pub store : StoreFault
-    pub opens : OpensAt (seen_by faults_of device) shared opening account name own (Err store)
-    pub fault_is : fault ≡ told_fault store
-
-  -- An account of the device was refused, or there was no memory. The board has all steps of the accounts that were
-  -- opened by then, and a home fails only where one of these steps did.
-  pub record StopsAt (device : BoardDevice B) (opening : Opening) (fault : HomeFault) (left : B) : Type 0 where
+  -- The lock of this device was closed with this seat: a chain of steps led from the device to the one whose board is
+  -- left, and what the seat knew of each number are that account's steps in the chain. No step is of another number.
+  pub record Closes (device : BoardDevice B) (seat : SeatView Step) (left : B) : Type 0 where
     pub last : BoardDevice B
     pub chain : List Step
     pub served : IsServed (seen_by faults_of) (StandsTo disk_of) device last chain
     pub left_is : left ≡ board_of last
-    pub cause : (fault ≡ faults.NoMemory) ⊎ IsRefusedBy device opening fault
+    pub entries : Recalls account_of chain seat
+    pub callers : All (λ step. account_of step < seat.lock.callers) chain
+
+  -- An account was refused for this fault of its store, by its steps in the chain.
+  pub record IsRefusedBy (device : BoardDevice B) (shared : LockId) (opening : Opening) (chain : List Step)
+      (fault : HomeFault) : Type 0 where
+    pub account : ℕ
+    pub name : Bytes
+    pub owner : IsOwner (seen_by faults_of device) account name
+    pub store : StoreFault
+    pub opens : OpensAt (seen_by faults_of device) shared opening account name
+        (entries_of account_of account chain) (Err store)
+    pub fault_is : fault ≡ told_fault store
+
+  -- An account of the device was refused, or there was no memory. The board has all steps of the accounts that were
+  -- tried by then: of each account the chain has no step, or those of an opening of it. A home fails only where one of
+  -- these steps did.
+  pub record StopsAt (device : BoardDevice B) (opening : Opening) (fault : HomeFault) (left : B) : Type 0 where
+    pub last : BoardDevice B
+    pub shared : LockId
+    pub chain : List Step
+    pub served : IsServed (seen_by faults_of) (StandsTo disk_of) device last chain
+    pub left_is : left ≡ board_of last
+    pub openings : (account : ℕ) → AreOpeningSteps (seen_by faults_of device) shared opening account
+        (entries_of account_of account chain)
+    pub cause : (fault ≡ faults.NoMemory) ⊎ IsRefusedBy device shared opening chain fault
     pub failed : fault ≡ faults.Failed → HasFailed chain
 
   -- the board's device was opened, and its accounts weren't

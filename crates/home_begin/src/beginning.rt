@@ -1,6 +1,6 @@
 //! The accounts are opened, and their locks' seats dealt to the clients.
 
-ghost use Rattle.std.specs.Prelude.{◌≡◌, ◌⊎◌, ◌<◌, ◌≤◌, ◌^◌, map, length, IfOk, IfErr, IsTrue, vec_capacity};
+ghost use Rattle.std.specs.Prelude.{◌≡◌, ◌⊎◌, ◌<◌, ◌≤◌, ◌^◌, map, length, IfOk, IfErr, IfSome, IsTrue, vec_capacity};
 ghost use Rattle.std.specs.List.{list_all, range_with_len};
 ghost use Rattle.home_names.specs.Names.{is_account_name};
 ghost use Rattle.turn_lock.specs.Seats.{HasEachNumber, first_seat};
@@ -13,8 +13,8 @@ ghost use Rattle.user_home.specs.Ending.{IsIdle, IsRoomFor};
 ghost use Rattle.home_begin.specs.Begins.{IsBegun, IsNotBegun, StopsAt, callers_for};
 
 use crate::device::open_device;
-use crate::platform::{close_platform, into_board, share_accounts};
-use crate::rooms::{Rooms, join_wholes, part_accounts, rooms_for};
+use crate::platform::{close_platform, into_board, share_accounts, whole_seat};
+use crate::rooms::{Rooms, join_accounts, part_accounts, rooms_for};
 use board_device::BoardDevice;
 use board_model::Board;
 use client_seats::{ClientSeats, deal_seats};
@@ -26,7 +26,7 @@ use std::alloc::Global;
 use std::sync::Wait;
 use turn_lock::Seat;
 use user_accounts::UserTurns;
-use user_home::{UserHome, close_locks};
+use user_home::UserHome;
 
 /// A home that was begun, with its clients' seats in the order of the clients' numbers.
 #[derive(Drop)]
@@ -66,6 +66,7 @@ fn open_locks<R: Wait, B: Board + Drop>(
         (map (λ a. account_seen a.lock.id a.lock.first.seat a.lock.first.state a.lock.first.era a.seat)
         made.accounts.items)) }
     ensures idle { IfOk result (λ made. IsIdle shared.id (length names.now) made.idle) }
+    ensures first { IfOk result (λ made. IfSome made.idle (λ seat. seat ≡ first_seat shared.id)) }
     ensures stops { IfErr result (λ refused. StopsAt B.disk B.faults shared.first.device opening.now refused.0
         refused.1) }
 {
@@ -102,6 +103,7 @@ fn deal_locks<B: Board + Drop>(
         (map (λ a. account_seen a.lock.id a.lock.first.seat a.lock.first.state a.lock.first.era a.seat)
         opened.accounts.items) }
     requires idle { IsIdle opened.shared.id (length names.items) opened.idle }
+    requires first { IfSome opened.idle (λ seat. seat ≡ first_seat opened.shared.id) }
     requires locks { IsRoomFor (length names.items) rooms.locks.items (vec_capacity rooms.locks) }
     requires seats { IsRoomFor (length names.items) rooms.seats.items (vec_capacity rooms.seats) }
     requires wholes { IsRoomFor (length names.items) rooms.wholes.items (vec_capacity rooms.wholes) }
@@ -132,11 +134,12 @@ fn deal_locks<B: Board + Drop>(
     let Rooms {
         mut locks,
         mut seats,
-        mut wholes,
+        wholes,
         parts,
         books,
     } = rooms;
-    part_accounts(accounts, &mut locks, &mut seats);
+    let mut accounts = accounts;
+    part_accounts(&mut accounts, &mut locks, &mut seats);
     match deal_seats(alloc, &locks, seats, opening.clients) {
         Ok(clients) => {
             let home = UserHome {
@@ -151,8 +154,9 @@ fn deal_locks<B: Board + Drop>(
             Ok(BegunHome { home, clients })
         }
         Err((NoMemory, seats)) => {
-            join_wholes(locks, seats, &mut wholes);
-            Err(into_board(close_locks(shared, idle, wholes, parts, books).device))
+            join_accounts(locks, seats, &mut accounts);
+            let seat = whole_seat(&shared, idle, accounts);
+            Err(close_platform(shared, seat))
         }
     }
 }

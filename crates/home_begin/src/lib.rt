@@ -11,4 +11,6 @@ mod rooms;
 
 pub use beginning::{BegunHome, begin_home};
 pub use device::open_device;
-pub use laws::{begun_accounts_open, begun_home_can_end, begun_home_is_servable};
+pub use laws::{
+    begun_accounts_open, begun_home_can_end, begun_home_is_servable, refused_start_keeps_homes,
+};

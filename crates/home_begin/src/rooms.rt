@@ -1,6 +1,6 @@
 //! The memory of a home's lists.
 
-ghost use Rattle.std.specs.Prelude.{◌≡◌, ◌≤◌, ◌+◌, ◌++◌, map, length, IfOk, vec_len, vec_capacity};
+ghost use Rattle.std.specs.Prelude.{◌≡◌, ◌≤◌, ◌+◌, ◌++◌, [], map, length, IfOk, vec_len, vec_capacity};
 ghost use Rattle.user_home.specs.Ending.{IsRoomFor};
 
 use board_model::Board;
@@ -43,20 +43,22 @@ pub(crate) fn rooms_for<B: Board + Drop>(
     })
 }
 
-/// Puts the accounts' locks and the first seats of these behind others, in order.
+/// Puts the accounts' locks and the first seats of these behind others, in order. The accounts' list keeps its memory.
 pub(crate) fn part_accounts<B: Board + Drop>(
-    mut accounts: Vec<OpenedAccount<B>>,
+    accounts: &mut Vec<OpenedAccount<B>>,
     locks: &mut Vec<Turnstile<Account<UserTurns<B>>>>,
     seats: &mut Vec<Seat<Account<UserTurns<B>>>>,
 )
-    requires locks { vec_len locks.old + length accounts.items ≤ vec_capacity locks.old }
-    requires seats { vec_len seats.old + length accounts.items ≤ vec_capacity seats.old }
+    requires locks { vec_len locks.old + length accounts.old.items ≤ vec_capacity locks.old }
+    requires seats { vec_len seats.old + length accounts.old.items ≤ vec_capacity seats.old }
+    ensures none { accounts.new.items ≡ [] }
+    ensures room { vec_capacity accounts.new ≡ vec_capacity accounts.old }
     ensures locks_room { vec_capacity locks.new ≡ vec_capacity locks.old }
     ensures seats_room { vec_capacity seats.new ≡ vec_capacity seats.old }
-    ensures locks_len { vec_len locks.new ≡ vec_len locks.old + length accounts.items }
-    ensures seats_len { vec_len seats.new ≡ vec_len seats.old + length accounts.items }
-    ensures locks { locks.new.items ≡ locks.old.items ++ map (λ account. account.lock) accounts.items }
-    ensures seats { seats.new.items ≡ seats.old.items ++ map (λ account. account.seat) accounts.items }
+    ensures locks_len { vec_len locks.new ≡ vec_len locks.old + length accounts.old.items }
+    ensures seats_len { vec_len seats.new ≡ vec_len seats.old + length accounts.old.items }
+    ensures locks { locks.new.items ≡ locks.old.items ++ map (λ account. account.lock) accounts.old.items }
+    ensures seats { seats.new.items ≡ seats.old.items ++ map (λ account. account.seat) accounts.old.items }
 {
     let Some(OpenedAccount { lock, seat }) = accounts.pop() else {
         return;
@@ -66,25 +68,25 @@ pub(crate) fn part_accounts<B: Board + Drop>(
     seats.push_reserved(seat);
 }
 
-/// Puts the locks, each with its seat, behind others, in order.
-pub(crate) fn join_wholes<B: Board + Drop>(
+/// Puts the locks, each with its seat, behind other accounts, in order.
+pub(crate) fn join_accounts<B: Board + Drop>(
     mut locks: Vec<Turnstile<Account<UserTurns<B>>>>,
     mut seats: Vec<Seat<Account<UserTurns<B>>>>,
-    wholes: &mut Vec<WholeLock<Account<UserTurns<B>>>>,
+    accounts: &mut Vec<OpenedAccount<B>>,
 )
     requires many { length seats.items ≡ length locks.items }
-    requires room { vec_len wholes.old + length locks.items ≤ vec_capacity wholes.old }
-    ensures room { vec_capacity wholes.new ≡ vec_capacity wholes.old }
-    ensures len { vec_len wholes.new ≡ vec_len wholes.old + length locks.items }
-    ensures locks { map (λ whole. whole.lock) wholes.new.items
-        ≡ map (λ whole. whole.lock) wholes.old.items ++ locks.items }
-    ensures seats { map (λ whole. whole.seat) wholes.new.items
-        ≡ map (λ whole. whole.seat) wholes.old.items ++ seats.items }
+    requires room { vec_len accounts.old + length locks.items ≤ vec_capacity accounts.old }
+    ensures room { vec_capacity accounts.new ≡ vec_capacity accounts.old }
+    ensures len { vec_len accounts.new ≡ vec_len accounts.old + length locks.items }
+    ensures locks { map (λ account. account.lock) accounts.new.items
+        ≡ map (λ account. account.lock) accounts.old.items ++ locks.items }
+    ensures seats { map (λ account. account.seat) accounts.new.items
+        ≡ map (λ account. account.seat) accounts.old.items ++ seats.items }
 {
     let Some(lock) = locks.pop() else {
         return;
     };
     let seat = seats.pop().unwrap();
-    join_wholes(locks, seats, wholes);
-    wholes.push_reserved(WholeLock { lock, seat });
+    join_accounts(locks, seats, accounts);
+    accounts.push_reserved(OpenedAccount { lock, seat });
 }

@@ -1,6 +1,6 @@
 -- Turns that look and change nothing.
 use Rattle.std.specs.Prelude.{◌≡◌, ℕ, List, [], ◌∷◌, None, Contains}
-use Rattle.std.proofs.Common.{refl, arith}
+use Rattle.std.proofs.Common.{refl, sym, subst, arith}
 use Rattle.home_image.specs.Book.{among}
 use Rattle.home_image.specs.Settled.{owned}
 use Rattle.image_path.specs.Paths.{IsLedIn, Recovers}
@@ -66,3 +66,10 @@ looks_recover chain = record {
   );
   now_is = λ account. led_in chain account;
 }
+
+-- as it has what all steps lead to
+pub looks_last : (chain : List Step) (image : ByAccount ℕ) → IsBlankImage image → (account : ℕ)
+    → IsLedIn (meaning_of look_rules) IsBlankImage chain account 0 (image account)
+looks_last chain image blank account =
+    subst (λ (contents : ℕ). IsLedIn (meaning_of look_rules) IsBlankImage chain account 0 contents)
+    (sym (blank account)) (led_in chain account)

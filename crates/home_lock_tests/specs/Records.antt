@@ -6,13 +6,14 @@ use Rattle.pw_types.specs.declared.era.Era.{Era}
 use Rattle.share_api.specs.Contents.{Contents}
 use Rattle.share_api.specs.Steps.{Does}
 use Rattle.share_api.specs.declared.step.Step.{Step}
-use Rattle.image_path.specs.Paths.{Recovers}
+use Rattle.image_path.specs.Paths.{IsLedIn, Recovers}
+use Rattle.image_path.specs.Showing.{ByAccount}
 use Rattle.image_path.proofs.PathLemmas.{led-of}
 use Rattle.home_locks.specs.Meanings.{Rules, meaning_of}
 use Rattle.board_device.specs.Device.{board_of, era_of}
-use Rattle.board_device.specs.Standing.{StandsTo, IsOpened, contents_of, images_since}
+use Rattle.board_device.specs.Standing.{StandsTo, IsOpened, contents_of, images_now, images_since}
 use Rattle.board_device.specs.declared.device.BoardDevice.{BoardDevice}
-use Rattle.board_device.proofs.LedLemmas.{image_led, now_led}
+use Rattle.board_device.proofs.LedLemmas.{image_led, last_led, now_led}
 
 -- Steps mean what they do to an account's contents. Durable parts and users are numbers, which contents say nothing of.
 abbrev pub record_rules : Era → Rules Contents ℕ ℕ ℕ ℕ
@@ -26,7 +27,7 @@ record_rules era = record {
   fits = λ state contents user. Unit {0};
 }
 
--- ---- a proof that a law of the turns cites
+-- ---- proofs that laws of the turns cite
 
 -- each image has what the first so many steps lead to
 pub records_recover : {B : Type 0} (disk_of : B → Disk) (first now : BoardDevice B) (chain : List Step)
@@ -52,3 +53,15 @@ records_recover disk_of first now chain opened stands synced there = record {
       (λ image told. synced image
       (subst (λ (o : Option Image). IfSome o (disk_of (board_of now)).once_synced) told there)) account);
 }
+
+-- each image that a crash may leave now has what all steps lead to
+pub records_last : {B : Type 0} (disk_of : B → Disk) (first now : BoardDevice B) (chain : List Step)
+    → IsOpened disk_of first
+    → StandsTo disk_of first now chain
+    → (parts : ByAccount Contents) → images_now disk_of now parts → (account : ℕ)
+    → IsLedIn (meaning_of (record_rules (era_of first))) (images_since disk_of first now) chain account
+    (contents_of disk_of first account) (parts account)
+records_last disk_of first now chain opened stands parts has account =
+    led-of (meaning_of (record_rules (era_of first))) (images_since disk_of first now) account chain
+    (contents_of disk_of first account) (parts account)
+    (last_led disk_of first now chain stands opened parts has account)

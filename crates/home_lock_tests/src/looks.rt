@@ -10,7 +10,7 @@ use std::alloc::Global;
 pub struct LookTurns;
 
 impl AccountTurns for LookTurns {
-    ghost use Rattle.home_lock_tests.specs.Looks.{look_rules, IsBlankImage, TellsNumber, looks_recover};
+    ghost use Rattle.home_lock_tests.specs.Looks.{look_rules, IsBlankImage, TellsNumber, looks_last, looks_recover};
 
     type Platform = CountingDevice;
 
@@ -40,7 +40,11 @@ impl AccountTurns for LookTurns {
 
     ghost images = { λ first now. IsBlankImage };
 
+    ghost images_now = { λ device. IsBlankImage };
+
     ghost recovers = { λ first now chain opened stands. looks_recover chain };
+
+    ghost lasts = { λ first now chain opened stands. looks_last chain };
 
     fn blank() -> u64 {
         0

@@ -13,9 +13,9 @@ pub struct RecordTurns<B> {
 
 impl<B: Board + Drop> AccountTurns for RecordTurns<B> {
     ghost use Rattle.board_device.specs.Device.{board_of};
-    ghost use Rattle.board_device.specs.Standing.{IsOpened, contents_of, images_since};
+    ghost use Rattle.board_device.specs.Standing.{IsOpened, contents_of, images_now, images_since};
     ghost use Rattle.home_lock_tests.specs.Looks.{TellsNumber};
-    ghost use Rattle.home_lock_tests.specs.Records.{record_rules, records_recover};
+    ghost use Rattle.home_lock_tests.specs.Records.{record_rules, records_last, records_recover};
 
     type Platform = BoardDevice<B>;
 
@@ -45,8 +45,12 @@ impl<B: Board + Drop> AccountTurns for RecordTurns<B> {
 
     ghost images = { images_since B.disk };
 
+    ghost images_now = { images_now B.disk };
+
     ghost recovers = { λ first now chain opened stands. records_recover B.disk first now chain opened stands
         (B.synced_now (board_of now)) (B.is_image (board_of now)) };
+
+    ghost lasts = { records_last B.disk };
 
     fn blank() -> u64 {
         0

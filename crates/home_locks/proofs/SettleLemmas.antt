@@ -90,7 +90,7 @@ module _ {C D U T X : Type 0} (rules : Rules C D U T X) (chain : List Step) (ima
         ends_at n image left ends (account + 1) more (ap rest_of are) recalls.1 stand.1 opened.1 clean.1,
       )
 
-  -- the books from this account on end legal and held
+  -- the books from this account on end legal, and held by contents to which all steps lead
   ends_ended : (now : ByAccount C)
       → ((account : ℕ) → IsLedIn (meaning_of rules) images chain account (first account) (now account))
       → (ends : List (End T X)) (account more : ℕ)
@@ -117,21 +117,34 @@ module _ {C D U T X : Type 0} (rules : Rules C D U T X) (chain : List Step) (ima
 -- the books of all accounts settle
 pub settles : {C D U T X : Type 0} (rules : Rules C D U T X) (shared : LockId) (accounts : List ℕ)
     (clients : List (SeatView (Entry T))) (starts : List (Started X)) (old books : List (List (Entry T))) (seat : SeatView Step) (chain : List Step) (first now : ByAccount C)
-    (images : ByAccount C → Type 0)
+    (images images_now : ByAccount C → Type 0)
     → Closes rules shared accounts clients starts old books (Some seat)
     → old ≡ []
     → accounts ≡ range_with_len 0 shared.callers
     → Recalls account_of chain seat
     → Recovers (meaning_of rules) first now images chain
-    → Settles rules starts first now images chain books
-settles {C} {D} {U} {T} {X} rules shared accounts clients starts old books seat chain first now images closes none numbers
-    recalls recovers =
+    → ((image : ByAccount C) → images_now image → (account : ℕ)
+    → IsLedIn (meaning_of rules) images chain account (first account) (image account))
+    → Settles rules starts first now images images_now chain books
+settles {C} {D} {U} {T} {X} rules shared accounts clients starts old books seat chain first now images images_now closes
+    none numbers recalls recovers lasts =
     let ends : List (End T X) = closes.ends in
     let books_are : books ≡ map (λ end. end.book) ends =
     closes.books_are ∙ ap (λ bs. bs ++ map (λ (end : End T X). end.book) ends) none in
     let are : map (λ end. end.seat.caller) ends ≡ range_with_len 0 shared.callers =
     sym closes.accounts_are ∙ numbers in
     let known = recalls_ends shared chain ends seat recalls closes.knows in
+    let end : (user : ℕ → U) (image : ByAccount C)
+    → ((account : ℕ) → IsLedIn (meaning_of rules) images chain account (first account) (image account))
+    → AreOpened rules first user 0 starts
+    → AreBooksClean rules images user 0 books
+    → length chain < 2 ^ 64
+    → HaveEnded rules (length chain) user image 0 books =
+    λ user image led opened clean small.
+    subst (HaveEnded rules (length chain) user image 0) (sym books_are)
+    (ends_ended rules chain images user first small image led ends 0 shared.callers are known
+    closes.stand (subst (AreOpened rules first user 0) closes.starts_are opened)
+    (subst (AreBooksClean rules images user 0) books_are clean)) in
     record {
       at_one_place = λ user opened clean small image is.
           let left = recovers.image image is in (
@@ -142,11 +155,8 @@ settles {C} {D} {U} {T} {X} rules shared accounts clients starts old books seat 
                 closes.stand (subst (AreOpened rules first user 0) closes.starts_are opened)
                 (subst (AreBooksClean rules images user 0) books_are clean)),
           );
-      ended = λ user opened clean small.
-          subst (HaveEnded rules (length chain) user now 0) (sym books_are)
-          (ends_ended rules chain images user first small now recovers.now_is ends 0 shared.callers are known
-          closes.stand (subst (AreOpened rules first user 0) closes.starts_are opened)
-          (subst (AreBooksClean rules images user 0) books_are clean));
+      ended = λ user opened clean small. end user now recovers.now_is opened clean small;
+      lasts = λ user opened clean small image may. end user image (lasts image may) opened clean small;
     }
 
 -- what the clients knew are their entries in the books

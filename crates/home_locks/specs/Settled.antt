@@ -43,9 +43,10 @@ module _ {C D U T X : Type 0} (rules : Rules C D U T X) where
       × HaveEnded n user now (account + 1) books
 
   -- Of users whom the accounts' first steps open, over the contents before all steps, and of whose books no two
-  -- recorded inputs coincide: each image is at one place of all books, and at the end each book is legal and holds
-  -- all its changes. A place is a u64, so the chain is to have fewer steps than that.
-  pub record Settles (starts : List (Started X)) (first now : ByAccount C) (images : ByAccount C → Type 0)
+  -- recorded inputs coincide: each image is at one place of all books, and at the end each book is legal, and what is
+  -- there now holds all its changes, as does each image that a crash may leave now. A place is a u64, so the chain is
+  -- to have fewer steps than that.
+  pub record Settles (starts : List (Started X)) (first now : ByAccount C) (images images_now : ByAccount C → Type 0)
       (chain : List Step) (books : List (List (Entry T))) : Type 0 where
     pub at_one_place : (user : ℕ → U)
         → AreOpened first user 0 starts
@@ -58,3 +59,10 @@ module _ {C D U T X : Type 0} (rules : Rules C D U T X) where
         → AreBooksClean images user 0 books
         → length chain < 2 ^ 64
         → HaveEnded (length chain) user now 0 books
+    -- so does each image that a crash may leave now
+    pub lasts : (user : ℕ → U)
+        → AreOpened first user 0 starts
+        → AreBooksClean images user 0 books
+        → length chain < 2 ^ 64
+        → (image : ByAccount C) → images_now image
+        → HaveEnded (length chain) user image 0 books

@@ -91,7 +91,7 @@ pub fn settle<K: AccountTurns>(
         × (K.opened shared.first.device → Settles (K.rules (K.Platform.seen shared.first.device).era)
         (map (λ part. started_at part.lock.first.seat part.lock.first.state) parts.items)
         (K.contents shared.first.device) (K.contents result.device)
-        (K.images shared.first.device result.device) chain result.books.items) }
+        (K.images shared.first.device result.device) (K.images_now result.device) chain result.books.items) }
     // What the joined seats know of each client's turns are that client's entries, at their places.
     ensures own { AreRecalled (map (λ part. part.seat) parts.items) result.books.items }
 {

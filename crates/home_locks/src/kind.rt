@@ -2,7 +2,7 @@
 
 ghost use Rattle.std.specs.Prelude.{◌≡◌, ℕ, List};
 ghost use Rattle.pw_types.specs.declared.era.Era.{Era};
-ghost use Rattle.image_path.specs.Paths.{Recovers};
+ghost use Rattle.image_path.specs.Paths.{IsLedIn, Recovers};
 ghost use Rattle.image_path.specs.Showing.{ByAccount};
 ghost use Rattle.share_api.specs.declared.step.Step.{Step};
 ghost use Rattle.home_locks.specs.Accounts.{Readiness, StaysReady};
@@ -59,6 +59,9 @@ pub trait AccountTurns {
     /// What the images have of each account that a crash since the first platform may leave of the second.
     ghost images: { Self.Platform → Self.Platform → ByAccount Self.Contents → Type 0 };
 
+    /// What the images have of each account that a crash may leave of a platform now.
+    ghost images_now: { Self.Platform → ByAccount Self.Contents → Type 0 };
+
     /// A turn that says nothing yet.
     fn blank() -> Self::Turn;
 
@@ -83,4 +86,14 @@ pub trait AccountTurns {
         → Self.Platform.stands first now chain
         → Recovers (meaning_of (rules (Self.Platform.seen first).era)) (contents first) (contents now)
         (images first now) chain };
+
+    /// Each image that a crash may leave now has of all accounts what all their steps lead to.
+    ghost lasts: { (first now : Self.Platform) (chain : List Step)
+        → opened first
+        → Self.Platform.stands first now chain
+        → (image : ByAccount Self.Contents)
+        → images_now now image
+        → (account : ℕ)
+        → IsLedIn (meaning_of (rules (Self.Platform.seen first).era)) (images first now) chain account
+        (contents first account) (image account) };
 }

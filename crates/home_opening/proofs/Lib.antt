@@ -1,4 +1,5 @@
-mod NumberLemmas
-mod FailureLemmas
+pub mod RecallLemmas
+pub mod NumberLemmas
+pub mod KnownLemmas
 mod OpenedLemmas
 mod ClosingLemmas

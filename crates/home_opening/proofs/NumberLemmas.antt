@@ -1,5 +1,5 @@
 -- Which numbers seats have while accounts are opened and closed.
-use Rattle.std.proofs.Common.{◌≡◌, ℕ, zero, suc, ◌+◌, ◌<◌, List, [], ◌∷◌, ◌++◌, map, length, Option, Some, Result, Ok, Err, refl, sym, ap, ◌∙◌, subst, append_assoc, arith}
+use Rattle.std.proofs.Common.{◌≡◌, ℕ, ◌+◌, ◌<◌, List, [], ◌∷◌, ◌++◌, map, length, Result, Ok, Err, refl, sym, ap, ◌∙◌, subst, append_assoc, arith}
 use Rattle.std.specs.Prelude.{IfOk, IfErr}
 use Rattle.std.proofs.lemmas.List.{map-append}
 use Rattle.std.specs.List.{range_with_len}
@@ -9,7 +9,6 @@ use Rattle.turn_lock.specs.Lists.{count_of}
 use Rattle.turn_lock.specs.Seats.{LockId, SeatView, HasEachNumber, HasNumbersOf, numbers_of, new_seat}
 use Rattle.turn_lock.proofs.Counts.{count_of-append}
 use Rattle.platform_lock.specs.Devices.{DeviceSeen}
-use Rattle.platform_lock.specs.Seats.{AccountView}
 use Rattle.home_locks.specs.Closing.{account_at}
 use Rattle.home_seats.specs.Seats.{LockSeen}
 use Rattle.home_opening.specs.Locks.{AccountSeen, IsAccountLock}

@@ -1,6 +1,5 @@
 -- Accounts that were opened.
-use Rattle.std.proofs.Common.{◌≡◌, ℕ, ◌⊎◌, ⊎_elim, inl, inr, List, [], ◌∷◌, ◌++◌, map, take, drop, length, Option, None, Some, Result, Ok, Err, refl, sym, ap, ◌∙◌, subst, append_assoc}
-use Rattle.std.specs.List.{AllByRecursion}
+use Rattle.std.proofs.Common.{◌≡◌, ℕ, ⊎_elim, inl, inr, List, [], ◌∷◌, ◌++◌, map, take, drop, length, Option, None, Some, Result, Ok, Err, refl, sym, ap, ◌∙◌, subst, arith}
 use Rattle.share_api.specs.Contents.{Bytes}
 use Rattle.share_api.specs.Places.{steps_of}
 use Rattle.share_api.specs.Seen.{HasFailed}
@@ -15,9 +14,9 @@ use Rattle.user_opening.specs.Opens.{OpensUser}
 use Rattle.user_state.specs.declared.state.UserState.{UserState}
 use Rattle.pw_types.specs.declared.era.Era.{Era}
 use Rattle.home_opening.specs.Locks.{AccountSeen, IsAccountLock, IsFirstSeat, AreNewLocks}
-use Rattle.home_opening.specs.Numbers.{KnowsFailure}
+use Rattle.home_opening.specs.Numbers.{KnowsFailure, KnowsSteps}
 use Rattle.home_seats.specs.Seats.{LockSeen}
-use Rattle.home_opening.specs.Opened.{OpensAt, IsOwner, IsOpenedAt, AreOpenedFrom, IsRefusedAt, IsRefused, generator_of, told_fault}
+use Rattle.home_opening.specs.Opened.{OpensAt, IsOwner, IsOpenedAt, AreOpenedFrom, IsRefused, KnowsOpenings, generator_of, told_fault}
 use Rattle.home_opening.specs.declared.opening.Opening.{Opening}
 use Rattle.home_opening.specs.declared.fault.HomeFault.{HomeFault}
 
@@ -29,17 +28,20 @@ value_or a (Some b) = b
 pub one_value : {A : Type 0} (a b : A) (o : Option A) → o ≡ Some a → o ≡ Some b → a ≡ b
 one_value a b o p q = ap (value_or a) (sym p ∙ q)
 
--- a refusal stays one where another seat knows of the failed step
+-- a refusal stays one where another seat knows of the failed step, and of the account's
 pub refused_for : (device : DeviceSeen) (shared : LockId) (opening : Opening) (fault : HomeFault)
     (seat other : SeatView Step)
     → (KnowsFailure seat → KnowsFailure other)
+    → ((account : ℕ) (own : List (ℕ × Step)) → KnowsSteps seat account own → KnowsSteps other account own)
     → IsRefused device shared opening fault seat
     → IsRefused device shared opening fault other
-refused_for device shared opening fault seat other knows refused =
+refused_for device shared opening fault seat other knows kept refused =
     ⊎_elim inl (λ at. inr (record {
       account = at.account;
       name = at.name;
+      owner = at.owner;
       own = at.own;
+      known = kept at.account at.own at.known;
       store = at.store;
       opens = at.opens;
       fault_is = at.fault_is;
@@ -85,13 +87,17 @@ same_err a b same = ap Err same
 -- Where its store refused the account, the home is refused so, and the account's own seat knows the failed step.
 pub refused_at : (device : DeviceSeen) (shared : LockId) (opening : Opening) (seat : SeatView Step) (name : Bytes)
     (store : StoreFault) (fault : HomeFault) (given : SeatView Step)
+    → IsOwner device seat.caller name
+    → given.caller ≡ seat.caller
     → OpensAt device shared opening seat.caller name given.own (Err store)
     → fault ≡ told_fault store
     → IsRefused device shared opening fault given
-refused_at device shared opening seat name store fault given opens is = inr (record {
+refused_at device shared opening seat name store fault given owner same opens is = inr (record {
   account = seat.caller;
   name = name;
+  owner = owner;
   own = given.own;
+  known = (0, omega arith, λ i. (same i, given.own));
   store = store;
   opens = opens;
   fault_is = is;
@@ -101,6 +107,29 @@ refused_at device shared opening seat name store fault given opens is = inr (rec
       (sym (ap steps_of (sym opens.own_is ∙ recovers.runs.own_is) ∙ recovers.runs.steps_are)) (recovers.fails
       (same_err store stores.Failed is)));
 })
+
+-- The seat that comes back knows the steps of the account's opening, and no others.
+pub knows_own : (device : DeviceSeen) (shared : LockId) (opening : Opening) (seat : SeatView Step) (name : Bytes)
+    (result : Result UserState StoreFault) (given : SeatView Step)
+    → seat ≡ new_seat shared seat.caller []
+    → given ≡ record seat { own = given.own }
+    → IsOwner device seat.caller name
+    → OpensAt device shared opening seat.caller name given.own result
+    → KnowsOpenings device shared opening given
+knows_own device shared opening seat name result given new kept owner opens =
+    subst (KnowsOpenings device shared opening)
+    (sym (kept ∙ ap (λ (s : SeatView Step). record s { own = given.own }) new)) (
+      inr (record { name = name; owner = owner; result = result; opens = opens }),
+      tt,
+    )
+
+-- a seat that is given back as it was knows nothing
+pub knows_nothing : (device : DeviceSeen) (shared : LockId) (opening : Opening) (seat : SeatView Step) (caller : ℕ)
+    (spare : List ℕ)
+    → seat ≡ new_seat shared caller spare
+    → KnowsOpenings device shared opening seat
+knows_nothing device shared opening seat caller spare new =
+    subst (KnowsOpenings device shared opening) (sym new) (inl refl, tt)
 
 -- the account was opened, and put behind this lock
 pub opened_at : (device : DeviceSeen) (shared : LockId) (opening : Opening) (seat : SeatView Step) (name : Bytes)

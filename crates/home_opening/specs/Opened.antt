@@ -1,5 +1,6 @@
 -- Accounts that were opened, and why one couldn't be.
-use Rattle.std.specs.Prelude.{◌≡◌, ◌⊎◌, ℕ, ◌+◌, ◌^◌, ◌≤◌, ◌<◌, List, [], ◌∷◌, ◌++◌, codes, Option, Some, Result, Ok, Err, IsTrue}
+use Rattle.std.specs.Prelude.{◌≡◌, ◌⊎◌, ℕ, ◌+◌, ◌^◌, ◌≤◌, ◌<◌, List, [], ◌∷◌, ◌++◌, codes, Some, Result, Ok, Err, IsTrue}
+use Rattle.std.specs.List.{AllByRecursion}
 use Rattle.hmac_sha.specs.Hmac.{hmac}
 use Rattle.home_names.specs.Names.{is_account_name}
 use Rattle.random_values.specs.Stretches.{Place, begun}
@@ -14,8 +15,8 @@ use Rattle.platform_lock.specs.Seats.{new_share, seen_of}
 use Rattle.user_state.specs.declared.state.UserState.{UserState}
 use Rattle.user_opening.specs.Opens.{OpensUser}
 use Rattle.home_seats.specs.Seats.{LockSeen}
-use Rattle.home_opening.specs.Locks.{IsAccountLock}
-use Rattle.home_opening.specs.Numbers.{KnowsFailure}
+use Rattle.home_opening.specs.Locks.{AccountSeen, IsAccountLock}
+use Rattle.home_opening.specs.Numbers.{KnowsFailure, KnowsSteps, known_by}
 use Rattle.home_opening.specs.declared.opening.Opening.{Opening}
 use Rattle.home_opening.specs.declared.fault.HomeFault.{HomeFault}
 use Rattle.home_opening.specs.declared.fault.HomeFault.TheVariants as faults
@@ -71,6 +72,28 @@ AreOpenedFrom device shared opening account (name ∷ names) [] = ⊥
 AreOpenedFrom device shared opening account (name ∷ names) (at ∷ all) =
     IsOpenedAt device shared opening account name at × AreOpenedFrom device shared opening (account + 1) names all
 
+-- each of these accounts was opened and put behind its lock, whatever its number and name
+abbrev pub AreOpenedLocks : DeviceSeen → LockId → Opening → List AccountSeen → Type 0
+AreOpenedLocks device shared opening accounts = AllByRecursion
+    (λ seen. (account : ℕ) × (name : Bytes) × IsOpenedAt device shared opening account name seen.at) accounts
+
+-- The account's steps are those of an opening of it, whatever came of that.
+pub record IsTried (device : DeviceSeen) (shared : LockId) (opening : Opening) (account : ℕ)
+    (own : List (ℕ × Step)) : Type 0 where
+  pub name : Bytes
+  pub owner : IsOwner device account name
+  pub result : Result UserState StoreFault
+  pub opens : OpensAt device shared opening account name own result
+
+-- there is no step of the account, or these are those of its opening
+abbrev pub AreOpeningSteps : DeviceSeen → LockId → Opening → ℕ → List (ℕ × Step) → Type 0
+AreOpeningSteps device shared opening account own = (own ≡ []) ⊎ IsTried device shared opening account own
+
+-- of each number the seat knows no step, or those of an opening of the account with this number
+abbrev pub KnowsOpenings : DeviceSeen → LockId → Opening → SeatView Step → Type 0
+KnowsOpenings device shared opening seat =
+    AllByRecursion (λ known. AreOpeningSteps device shared opening known.0 known.1) (known_by seat)
+
 -- a store's fault as that of a home
 abbrev pub told_fault : StoreFault → HomeFault
 told_fault stores.Failed = faults.Failed
@@ -83,7 +106,9 @@ pub record IsRefusedAt (device : DeviceSeen) (shared : LockId) (opening : Openin
     (seat : SeatView Step) : Type 0 where
   pub account : ℕ
   pub name : Bytes
+  pub owner : IsOwner device account name
   pub own : List (ℕ × Step)
+  pub known : KnowsSteps seat account own
   pub store : StoreFault
   pub opens : OpensAt device shared opening account name own (Err store)
   pub fault_is : fault ≡ told_fault store

@@ -4,7 +4,7 @@ ghost use Rattle.std.specs.Prelude.{◌≡◌, ◌<◌, Some, IfOk, IfErr, []};
 ghost use Rattle.turn_lock.specs.Seats.{new_seat};
 ghost use Rattle.board_device.specs.Device.{seen_by};
 ghost use Rattle.home_opening.specs.Locks.{IsFirstSeat, account_seen};
-ghost use Rattle.home_opening.specs.Opened.{CanBegin, IsOwner, IsOpenedAt, IsRefused};
+ghost use Rattle.home_opening.specs.Opened.{CanBegin, IsOwner, IsOpenedAt, IsRefused, KnowsOpenings};
 
 use crate::fault::{HomeFault, told_fault};
 use crate::opening::Opening;
@@ -72,6 +72,8 @@ pub(crate) fn open_account<R: Wait, B: Board + Drop>(
         (account_seen made.lock.id made.lock.first.seat made.lock.first.state made.lock.first.era made.seat).at) }
     ensures first { IfOk result (λ made. IsFirstSeat made.lock.id made.seat) }
     ensures kept { IfErr result (λ refused. refused.1 ≡ record seat { own = refused.1.own }) }
+    ensures knows { IfErr result (λ refused. KnowsOpenings (seen_by B.faults shared.now.first.device) shared.now.id
+        opening.now refused.1) }
     ensures refused { IfErr result (λ refused. IsRefused (seen_by B.faults shared.now.first.device) shared.now.id
         opening.now refused.0 refused.1) }
 {

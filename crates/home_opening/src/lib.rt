@@ -7,5 +7,6 @@ mod fault;
 mod opening;
 
 pub use account::OpenedAccount;
+pub use closing::close_opened;
 pub use fault::HomeFault;
 pub use opening::{Opening, open_accounts};

@@ -6,7 +6,7 @@ ghost use Rattle.turn_lock.specs.Seats.{HasEachNumber, first_seat, new_seat, num
 ghost use Rattle.board_device.specs.Device.{seen_by};
 ghost use Rattle.home_opening.specs.Locks.{AccountSeen, AreNewLocks, account_seen};
 ghost use Rattle.home_opening.specs.Numbers.{AreSameNumbers, numbers_at};
-ghost use Rattle.home_opening.specs.Opened.{AreOwners, CanBegin, AreOpenedFrom, IsRefused};
+ghost use Rattle.home_opening.specs.Opened.{AreOwners, AreOpenedLocks, CanBegin, AreOpenedFrom, IsRefused, KnowsOpenings};
 
 use crate::account::{OpenedAccount, open_account};
 use crate::closing::close_accounts;
@@ -49,6 +49,9 @@ fn open_others<R: Wait, B: Board + Drop>(
     requires begins { CanBegin (seen_by B.faults shared.now.first.device) opening.now }
     requires new { AreNewLocks shared.now.id opening.now.era opening.now.clients (map (λ a. account_seen a.lock.id a.lock.first.seat a.lock.first.state a.lock.first.era a.seat)
         accounts.old.items) }
+    requires each { AreOpenedLocks (seen_by B.faults shared.now.first.device) shared.now.id opening.now
+        (map (λ a. account_seen a.lock.id a.lock.first.seat a.lock.first.state a.lock.first.era a.seat)
+        accounts.old.items) }
     requires room { vec_len accounts.old + length names.now + 1 ≤ vec_capacity accounts.old }
     ensures room { IfOk result (λ rest. vec_len accounts.new + 1 ≤ vec_capacity accounts.new) }
     ensures rest { IfOk result (λ rest. rest ≡ new_seat shared.now.id 0 []) }
@@ -60,11 +63,16 @@ fn open_others<R: Wait, B: Board + Drop>(
         names.now (map (λ seen. seen.at) more)) }
     ensures new { AreNewLocks shared.now.id opening.now.era opening.now.clients (map (λ a. account_seen a.lock.id a.lock.first.seat a.lock.first.state a.lock.first.era a.seat)
         accounts.new.items) }
+    ensures each { AreOpenedLocks (seen_by B.faults shared.now.first.device) shared.now.id opening.now
+        (map (λ a. account_seen a.lock.id a.lock.first.seat a.lock.first.state a.lock.first.era a.seat)
+        accounts.new.items) }
     ensures of { IfErr result (λ refused. refused.1.lock ≡ shared.now.id) }
     ensures numbers { IfErr result (λ refused. AreSameNumbers (numbers_of refused.1 ++ numbers_at (map (λ a. account_seen a.lock.id a.lock.first.seat a.lock.first.state a.lock.first.era a.seat)
         accounts.new.items))
         (numbers_of rest ++ numbers_at (map (λ a. account_seen a.lock.id a.lock.first.seat a.lock.first.state a.lock.first.era a.seat)
         accounts.old.items))) }
+    ensures knows { IfErr result (λ refused. KnowsOpenings (seen_by B.faults shared.now.first.device) shared.now.id
+        opening.now refused.1) }
     ensures refused { IfErr result (λ refused. IsRefused (seen_by B.faults shared.now.first.device) shared.now.id
         opening.now refused.0 refused.1) }
 {
@@ -103,10 +111,15 @@ fn open_all<R: Wait, B: Board + Drop>(
         accounts.new.items))) }
     ensures new { AreNewLocks shared.now.id opening.now.era opening.now.clients (map (λ a. account_seen a.lock.id a.lock.first.seat a.lock.first.state a.lock.first.era a.seat)
         accounts.new.items) }
+    ensures each { IfErr result (λ refused. AreOpenedLocks (seen_by B.faults shared.now.first.device) shared.now.id
+        opening.now (map (λ a. account_seen a.lock.id a.lock.first.seat a.lock.first.state a.lock.first.era a.seat)
+        accounts.new.items)) }
     ensures of { IfErr result (λ refused. refused.1.lock ≡ shared.now.id) }
     ensures numbers { IfErr result (λ refused. AreSameNumbers (numbers_of refused.1 ++ numbers_at (map (λ a. account_seen a.lock.id a.lock.first.seat a.lock.first.state a.lock.first.era a.seat)
         accounts.new.items))
         (numbers_of first)) }
+    ensures knows { IfErr result (λ refused. KnowsOpenings (seen_by B.faults shared.now.first.device) shared.now.id
+        opening.now refused.1) }
     ensures refused { IfErr result (λ refused. IsRefused (seen_by B.faults shared.now.first.device) shared.now.id
         opening.now refused.0 refused.1) }
 {
@@ -149,6 +162,8 @@ pub fn open_accounts<R: Wait, B: Board + Drop>(
         accounts.items)) }
     ensures of { IfErr result (λ refused. refused.1.lock ≡ shared.now.id) }
     ensures numbers { IfErr result (λ refused. HasEachNumber refused.1) }
+    ensures knows { IfErr result (λ refused. KnowsOpenings (seen_by B.faults shared.now.first.device) shared.now.id
+        opening.now refused.1) }
     ensures refused { IfErr result (λ refused. IsRefused (seen_by B.faults shared.now.first.device) shared.now.id
         opening.now refused.0 refused.1) }
 {

@@ -11,9 +11,7 @@ ghost use Rattle.client_seats.specs.Clients.{client_view, new_client};
 ghost use Rattle.client_seats.specs.Gathering.{HaveEachNumber};
 ghost use Rattle.client_threads.specs.Ends.{ends_from};
 ghost use Rattle.home_locks.specs.Accounts.{started_at};
-ghost use Rattle.home_locks.specs.Settled.{Settles};
-ghost use Rattle.turn_meaning.specs.Meanings.{user_rules};
-ghost use Rattle.user_accounts.specs.Parts.{parts_of, part_images_since};
+ghost use Rattle.user_accounts.specs.Settled.{UsersSettle};
 ghost use Rattle.request_turns.specs.Named.{seats_seen};
 ghost use Rattle.home_seats.specs.Seats.{lock_seen, own_at};
 ghost use Rattle.user_home.specs.Ending.{CanEnd, IsRoomFor};
@@ -128,14 +126,13 @@ pub fn serve_home<
     ensures names { result.left.names ≡ home.names }
     ensures many { length result.left.books.items ≡ length home.locks.items }
     // The board is that of a device to which the chain of all accounts' steps led. Where the first one's board told its
-    // content, one place is read in all books at each moment, and all their changes are in at the end.
+    // content, one place is read in all books at each moment, and all their changes are in at the end, also in each image
+    // that a crash may leave then.
     ensures settled { (device : BoardDevice B) × (chain : List Step)
         × (result.left.board ≡ board_of device)
         × IsServed (seen_by B.faults) (StandsTo B.disk) home.shared.first.device device chain
-        × (IsOpened B.disk home.shared.first.device → Settles (user_rules (era_of home.shared.first.device))
-        (map (λ lock. started_at lock.first.seat lock.first.state) home.locks.items)
-        (parts_of B.disk home.shared.first.device) (parts_of B.disk device)
-        (part_images_since B.disk home.shared.first.device device) chain result.left.books.items) }
+        × (IsOpened B.disk home.shared.first.device → UsersSettle B.disk home.shared.first.device device
+        (map (λ lock. started_at lock.first.seat lock.first.state) home.locks.items) chain result.left.books.items) }
 {
     let ServedClients {
         clients,
@@ -172,14 +169,13 @@ pub fn end_home<B: Board + Drop>(
     ensures names { result.names ≡ home.names }
     ensures many { length result.books.items ≡ length home.locks.items }
     // The board is that of a device to which the chain of all accounts' steps led. Where the first one's board told its
-    // content, one place is read in all books at each moment, and all their changes are in at the end.
+    // content, one place is read in all books at each moment, and all their changes are in at the end, also in each image
+    // that a crash may leave then.
     ensures settled { (device : BoardDevice B) × (chain : List Step)
         × (result.board ≡ board_of device)
         × IsServed (seen_by B.faults) (StandsTo B.disk) home.shared.first.device device chain
-        × (IsOpened B.disk home.shared.first.device → Settles (user_rules (era_of home.shared.first.device))
-        (map (λ lock. started_at lock.first.seat lock.first.state) home.locks.items)
-        (parts_of B.disk home.shared.first.device) (parts_of B.disk device)
-        (part_images_since B.disk home.shared.first.device device) chain result.books.items) }
+        × (IsOpened B.disk home.shared.first.device → UsersSettle B.disk home.shared.first.device device
+        (map (λ lock. started_at lock.first.seat lock.first.state) home.locks.items) chain result.books.items) }
 {
     settle_home(home, seats)
 }

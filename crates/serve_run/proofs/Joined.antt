@@ -55,6 +55,7 @@ module _ {B S K C : Type 0} (outside : Outside B S K C) (handed : B) (named : Li
         record {
           at_one_place = settles.at_one_place (users_of durable opening.moment) are premises.clean premises.short;
           ended = settles.ended (users_of durable opening.moment) are premises.clean premises.short;
+          lasts = settles.lasts (users_of durable opening.moment) are premises.clean premises.short;
           others = ended.3.chain_stands.platform.others opened;
         };
   }

@@ -17,11 +17,12 @@ use Rattle.board_device.specs.Device.{accounts_of, board_of, era_of, seen_by}
 use Rattle.board_device.specs.Standing.{IsOpened, StandsTo}
 use Rattle.board_device.specs.declared.device.BoardDevice.{BoardDevice}
 use Rattle.home_locks.specs.Accounts.{Started}
-use Rattle.home_locks.specs.Settled.{AreAt, AreBooksClean, HaveEnded, Settles}
+use Rattle.home_locks.specs.Settled.{AreAt, AreBooksClean, HaveEnded}
 use Rattle.home_locks.specs.declared.account.Entry.{Entry}
 use Rattle.turn_meaning.specs.Meanings.{HoldsPart, Part, user_rules}
 use Rattle.turn_meaning.specs.declared.taken.TurnTaken.{TurnTaken}
-use Rattle.user_accounts.specs.Parts.{parts_of, part_images_since}
+use Rattle.user_accounts.specs.Parts.{parts_of, part_images_now, part_images_since}
+use Rattle.user_accounts.specs.Settled.{UsersSettle}
 use Rattle.user_state.specs.declared.state.UserState.{UserState}
 use Rattle.home_seats.specs.Seats.{LockSeen}
 use Rattle.home_opening.specs.declared.opening.Opening.{Opening}
@@ -47,8 +48,8 @@ module _ {B S K C : Type 0} (outside : Outside B S K C) where
 
   -- Each image that a crash since the start might have left is at one place of all books: it holds of each account the
   -- user after the turns up to there, or after the one in flight. At the end each book is a legal history from the user
-  -- that was opened, and what is there holds the user after all its turns. The chip's bytes and all files but the
-  -- accounts' records and temporary ones stay in each image.
+  -- that was opened, and what is there holds the user after all its turns; so does each image that a crash may leave then.
+  -- The chip's bytes and all files but the accounts' records and temporary ones stay in each image.
   pub record AreTold (moment : ℕ) (first last : BoardDevice B) (chain : List Step)
       (books : List (List (Entry TurnTaken))) (durable : ℕ → Durable) : Type 0 where
     pub at_one_place : (image : ByAccount Part) → part_images_since outside.disk first last image
@@ -56,6 +57,8 @@ module _ {B S K C : Type 0} (outside : Outside B S K C) where
         × AreAt (user_rules (era_of first)) n (users_of durable moment) image 0 books
     pub ended : HaveEnded (user_rules (era_of first)) (length chain) (users_of durable moment)
         (parts_of outside.disk last) 0 books
+    pub lasts : (image : ByAccount Part) → part_images_now outside.disk last image
+        → HaveEnded (user_rules (era_of first)) (length chain) (users_of durable moment) image 0 books
     pub others : (image i : Image) → (outside.disk (board_of first)).now ≡ Some image
         → (outside.disk (board_of last)).left_since (outside.disk (board_of first)).ticks i
         → OthersKept (accounts_of first) image i
@@ -66,8 +69,7 @@ module _ {B S K C : Type 0} (outside : Outside B S K C) where
   IsEnded first starts now books = (last : BoardDevice B) × (chain : List Step)
       × (now ≡ Some (board_of last))
       × IsServed (seen_by outside.board_faults) (StandsTo outside.disk) first last chain
-      × (IsOpened outside.disk first → Settles (user_rules (era_of first)) starts (parts_of outside.disk first)
-      (parts_of outside.disk last) (part_images_since outside.disk first last) chain books)
+      × (IsOpened outside.disk first → UsersSettle outside.disk first last starts chain books)
 
   -- A home was begun over the board that was handed out, and the chain of all accounts' steps led to the board that is
   -- left. What it held before, the books and the images agree.

@@ -4,3 +4,4 @@ pub mod Ready
 pub mod Told
 pub mod Parts
 pub mod Recovered
+pub mod Settled

@@ -5,7 +5,7 @@ use Rattle.image_path.specs.Showing.{ByAccount}
 use Rattle.platform_core.specs.Records.{account_at}
 use Rattle.share_api.specs.Contents.{Contents}
 use Rattle.board_device.specs.Device.{accounts_of}
-use Rattle.board_device.specs.Standing.{contents_of, images_since}
+use Rattle.board_device.specs.Standing.{contents_of, images_now, images_since}
 use Rattle.board_device.specs.declared.device.BoardDevice.{BoardDevice}
 use Rattle.turn_meaning.specs.Meanings.{Part, part_of}
 
@@ -24,3 +24,9 @@ module _ {B : Type 0} (disk_of : B → Disk) where
   part_images_since first now parts = (contents : ByAccount Contents)
       × images_since disk_of first now contents
       × ((account : ℕ) → parts account ≡ parts_with first contents account)
+
+  -- what the images show that a crash may leave now
+  abbrev pub part_images_now : BoardDevice B → ByAccount Part → Type 0
+  part_images_now device parts = (contents : ByAccount Contents)
+      × images_now disk_of device contents
+      × ((account : ℕ) → parts account ≡ parts_with device contents account)

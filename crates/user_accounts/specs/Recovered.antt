@@ -1,4 +1,5 @@
--- A proof that a law of the turns cites: what images have of accounts is led to by the first so many steps.
+-- Proofs that laws of the turns cite: what images have of accounts is led to by the first so many steps, and what those
+-- have that a crash may leave now by all steps.
 use Rattle.std.specs.Prelude.{ℕ, List, [], ◌∷◌, false, Option, IfSome, take}
 use Rattle.std.proofs.Common.{refl, sym, ap, subst}
 use Rattle.board_model.specs.Disk.{Image, Disk}
@@ -13,11 +14,11 @@ use Rattle.share_api.specs.Contents.{Contents}
 use Rattle.share_api.specs.Steps.{Does}
 use Rattle.share_api.specs.declared.step.Step.{Step}
 use Rattle.board_device.specs.Device.{board_of, accounts_of, era_of}
-use Rattle.board_device.specs.Standing.{StandsTo, IsOpened, contents_of, images_since}
+use Rattle.board_device.specs.Standing.{StandsTo, IsOpened, contents_of, images_now, images_since}
 use Rattle.board_device.specs.declared.device.BoardDevice.{BoardDevice}
-use Rattle.board_device.proofs.LedLemmas.{image_led, now_led}
+use Rattle.board_device.proofs.LedLemmas.{image_led, last_led, now_led}
 use Rattle.turn_meaning.specs.Meanings.{Part, part_of, DoesPart, user_rules}
-use Rattle.user_accounts.specs.Parts.{parts_with, parts_of, part_images_since}
+use Rattle.user_accounts.specs.Parts.{parts_with, parts_of, part_images_now, part_images_since}
 
 module _ {B : Type 0} (disk_of : B → Disk) (first now : BoardDevice B) where
   abbrev PartImages : ByAccount Part → Type 0
@@ -84,3 +85,19 @@ module _ {B : Type 0} (disk_of : B → Disk) (first now : BoardDevice B) where
         (part_of (account_at accounts account) false (contents_of disk_of now account))) (sym stands.accounts)
         (led_named account chain (contents_of disk_of first account) (contents_of disk_of now account) (led account));
   }
+
+  -- each image that a crash may leave now has of all accounts what all their steps lead to
+  pub parts_last : (chain : List Step)
+      → IsOpened disk_of first
+      → StandsTo disk_of first now chain
+      → (parts : ByAccount Part) → part_images_now disk_of now parts → (account : ℕ)
+      → IsLedIn (meaning_of (user_rules (era_of first))) PartImages chain account (parts_of disk_of first account)
+      (parts account)
+  parts_last chain opened stands parts has account =
+      subst (λ (part : Part). IsLedIn (meaning_of (user_rules (era_of first))) PartImages chain account
+      (parts_of disk_of first account) part) (sym (has.2 account))
+      (subst (λ (accounts : List (List ℕ)). IsLedIn (meaning_of (user_rules (era_of first))) PartImages chain account
+      (parts_of disk_of first account) (part_of (account_at accounts account) false (has.0 account)))
+      (sym stands.accounts)
+      (led_named account chain (contents_of disk_of first account) (has.0 account)
+      (last_led disk_of first now chain stands opened has.0 has.1 account)))

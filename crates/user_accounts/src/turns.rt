@@ -24,9 +24,9 @@ impl<B: Board + Drop> AccountTurns for UserTurns<B> {
     ghost use Rattle.board_device.specs.Device.{board_of};
     ghost use Rattle.board_device.specs.Standing.{IsOpened};
     ghost use Rattle.turn_meaning.specs.Meanings.{user_rules};
-    ghost use Rattle.user_accounts.specs.Parts.{parts_of, part_images_since};
+    ghost use Rattle.user_accounts.specs.Parts.{parts_of, part_images_now, part_images_since};
     ghost use Rattle.user_accounts.specs.Ready.{IsReadyFor};
-    ghost use Rattle.user_accounts.specs.Recovered.{parts_recover};
+    ghost use Rattle.user_accounts.specs.Recovered.{parts_last, parts_recover};
     ghost use Rattle.user_accounts.specs.Told.{TellsTurn};
 
     type Platform = BoardDevice<B>;
@@ -57,8 +57,12 @@ impl<B: Board + Drop> AccountTurns for UserTurns<B> {
 
     ghost images = { part_images_since B.disk };
 
+    ghost images_now = { part_images_now B.disk };
+
     ghost recovers = { λ first now chain opened stands. parts_recover B.disk first now chain opened stands
         (B.synced_now (board_of now)) (B.is_image (board_of now)) };
+
+    ghost lasts = { parts_last B.disk };
 
     fn blank() -> TurnTaken {
         TurnTaken {

@@ -62,10 +62,11 @@ numbers_are shared era clients account (at ∷ locks) of =
 
 -- without accounts there is nothing to be read
 pub settles_none : {C D U T X : Type 0} (rules : Rules C D U T X) (first now : ByAccount C)
-    (images : ByAccount C → Type 0) (chain : List Step) → Settles rules [] first now images chain []
-settles_none rules first now images chain = record {
+    (images images_now : ByAccount C → Type 0) (chain : List Step) → Settles rules [] first now images images_now chain []
+settles_none rules first now images images_now chain = record {
   at_one_place = λ user opened clean small image is. (0, omega arith, tt);
   ended = λ user opened clean small. tt;
+  lasts = λ user opened clean small image may. tt;
 }
 
 -- ---- what clients knew

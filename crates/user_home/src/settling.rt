@@ -13,9 +13,7 @@ ghost use Rattle.client_seats.specs.Gathering.{EachAt, HaveEachNumber, IsWholeSe
 ghost use Rattle.home_locks.specs.Accounts.{started_at};
 ghost use Rattle.home_locks.specs.Closing.{AreRecalled};
 ghost use Rattle.home_locks.specs.Meanings.{client_of};
-ghost use Rattle.home_locks.specs.Settled.{Settles};
-ghost use Rattle.turn_meaning.specs.Meanings.{user_rules};
-ghost use Rattle.user_accounts.specs.Parts.{parts_of, part_images_since};
+ghost use Rattle.user_accounts.specs.Settled.{UsersSettle};
 ghost use Rattle.home_seats.specs.Seats.{lock_seen};
 ghost use Rattle.home_opening.specs.Locks.{account_seen};
 ghost use Rattle.user_home.specs.Ending.{AreAccountLocks, CanEnd, IsRoomFor};
@@ -92,10 +90,9 @@ fn settle_accounts<B: Board + Drop>(
     requires books { IsRoomFor (length wholes.items) books.items (vec_capacity books) }
     ensures settled { (chain : List Step)
         × IsServed (seen_by B.faults) (StandsTo B.disk) shared.first.device result.device chain
-        × (IsOpened B.disk shared.first.device → Settles (user_rules (era_of shared.first.device))
-        (map (λ whole. started_at whole.lock.first.seat whole.lock.first.state) wholes.items)
-        (parts_of B.disk shared.first.device) (parts_of B.disk result.device)
-        (part_images_since B.disk shared.first.device result.device) chain result.books.items) }
+        × (IsOpened B.disk shared.first.device → UsersSettle B.disk shared.first.device result.device
+        (map (λ whole. started_at whole.lock.first.seat whole.lock.first.state) wholes.items) chain
+        result.books.items) }
     ensures own { AreRecalled (map (λ whole. whole.seat) wholes.items) result.books.items }
 {
     let mut parts = parts;
@@ -122,10 +119,9 @@ pub fn close_locks<B: Board + Drop>(
     requires books { IsRoomFor (length wholes.items) books.items (vec_capacity books) }
     ensures settled { (chain : List Step)
         × IsServed (seen_by B.faults) (StandsTo B.disk) shared.first.device result.device chain
-        × (IsOpened B.disk shared.first.device → Settles (user_rules (era_of shared.first.device))
-        (map (λ whole. started_at whole.lock.first.seat whole.lock.first.state) wholes.items)
-        (parts_of B.disk shared.first.device) (parts_of B.disk result.device)
-        (part_images_since B.disk shared.first.device result.device) chain result.books.items) }
+        × (IsOpened B.disk shared.first.device → UsersSettle B.disk shared.first.device result.device
+        (map (λ whole. started_at whole.lock.first.seat whole.lock.first.state) wholes.items) chain
+        result.books.items) }
     ensures own { AreRecalled (map (λ whole. whole.seat) wholes.items) result.books.items }
 {
     match idle {
@@ -157,14 +153,13 @@ pub fn settle_home<B: Board + Drop>(
     ensures names { result.names ≡ home.names }
     ensures many { length result.books.items ≡ length home.locks.items }
     // The board is that of a device to which the chain of all accounts' steps led. Where the first one's board told its
-    // content, one place is read in all books at each moment, and all their changes are in at the end.
+    // content, one place is read in all books at each moment, and all their changes are in at the end, also in each image
+    // that a crash may leave then.
     ensures settled { (device : BoardDevice B) × (chain : List Step)
         × (result.board ≡ board_of device)
         × IsServed (seen_by B.faults) (StandsTo B.disk) home.shared.first.device device chain
-        × (IsOpened B.disk home.shared.first.device → Settles (user_rules (era_of home.shared.first.device))
-        (map (λ lock. started_at lock.first.seat lock.first.state) home.locks.items)
-        (parts_of B.disk home.shared.first.device) (parts_of B.disk device)
-        (part_images_since B.disk home.shared.first.device device) chain result.books.items) }
+        × (IsOpened B.disk home.shared.first.device → UsersSettle B.disk home.shared.first.device device
+        (map (λ lock. started_at lock.first.seat lock.first.state) home.locks.items) chain result.books.items) }
     // What each client's seat of an account knew are the client's entries in the account's book, at their places.
     ensures own { EachAt (λ account book. AllByRecursion
         (λ known. entries_of client_of known.0 book ≡ known.1) (known_at account (map client_view clients.items)))

@@ -20,10 +20,12 @@ returns g c =
       settled = (
         chain,
         c.close-platform.ensures.stands,
-        λ opened. settles rules c.args.shared.id _ _ _ _ _ c.unwrap-seat.result chain _ _ _
+        λ opened. settles rules c.args.shared.id _ _ _ _ _ c.unwrap-seat.result chain _ _ _ _
             (subst (Closes rules c.args.shared.id _ _ _ _ _) c.unwrap-seat.ensures c.close_all.ensures.closes)
             c.requires.empty c.requires.numbers c.close-platform.ensures.entries
             (g.met.K.AccountTurns.recovers device c.close-platform.result.0.device chain opened
+            c.close-platform.ensures.stands.chain_stands)
+            (g.met.K.AccountTurns.lasts device c.close-platform.result.0.device chain opened
             c.close-platform.ensures.stands.chain_stands),
       );
       own = recalled_books rules c.args.shared.id _ _ _ _ _ _ c.close_all.ensures.closes c.requires.empty;

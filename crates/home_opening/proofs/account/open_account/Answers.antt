@@ -1,12 +1,9 @@
 -- The account's share went on by the steps of the opening, which its seat knows.
-use Rattle.std.proofs.Common.{rules, ◌≡◌, ℕ, List, Some, Ok, Err, sym, subst}
+use Rattle.std.proofs.Common.{rules, ◌≡◌, ℕ, List, Err, sym, ap, ◌∙◌, subst}
 use Rattle.share_api.specs.declared.step.Step.{Step}
-use Rattle.stored_home.specs.declared.fault.StoreFault.{StoreFault}
 use Rattle.turn_lock.specs.Seats.{SeatView}
 use Rattle.board_device.specs.Device.{seen_by}
-use Rattle.user_opening.specs.Opens.{OpensUser}
-use Rattle.user_state.specs.declared.state.UserState.{UserState}
-use Rattle.home_opening.specs.Opened.{OpensAt, IsRefused}
+use Rattle.home_opening.specs.Opened.{OpensAt}
 use Rattle.home_opening.proofs.OpenedLemmas.{opens_at, opened_at, refused_at, seat_kept}
 use Rattle.home_opening.proofs.account.open_account.Goals as goal
 
@@ -41,8 +38,10 @@ returns-in-Err-opened-clause-refused g c =
     c.new-share.ensures.value c.into_seat-own.ensures.seat c.open_user-opened.ensures.opens in
     let named : c.in-Ok.name ≡ c.args.name.now = search rules in
     let given : own.seat ≡ c.into_seat.result = sym c.into_seat.ensures.value in
+    let kept = seat_kept device c.args.seat c.new-own.result own c.new-share.result c.open_user-opened.new.share
+    c.new-own.ensures.value c.new-share.ensures.value c.open_user-opened.ensures.goes c.into_seat-own.ensures.seat in
     refused_at device shared opening c.args.seat c.args.name.now c.in-Err-opened.fault c.told_fault.result
-    c.into_seat.result
+    c.into_seat.result c.requires.owner (ap (λ (s : SeatView Step). s.caller) (sym given ∙ kept))
     (subst (λ (s : SeatView Step). OpensAt device shared opening c.args.seat.caller c.args.name.now s.own
     (Err c.in-Err-opened.fault)) given
     (subst (OpensAt device shared opening c.args.seat.caller c.args.name.now own.seat.own) c.in-Err-opened.is

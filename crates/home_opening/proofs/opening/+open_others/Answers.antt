@@ -2,9 +2,14 @@
 use Rattle.std.proofs.Common.{rules, ◌≡◌, ℕ, ◌+◌, [], ◌∷◌, ◌++◌, map, vec_len, sym, ap, ◌∙◌, subst}
 use Rattle.std.proofs.lemmas.List.{map-append}
 use Rattle.board_device.specs.Device.{seen_by}
+use Rattle.share_api.specs.declared.step.Step.{Step}
+use Rattle.turn_lock.specs.Seats.{SeatView}
 use Rattle.home_opening.specs.Locks.{AccountSeen, account_seen}
+use Rattle.home_opening.specs.Numbers.{KnowsFailure, KnowsSteps}
 use Rattle.home_opening.specs.Opened.{IsOpenedAt}
 use Rattle.home_opening.specs.declared.account.OpenedAccount.{OpenedAccount}
+use Rattle.home_opening.proofs.KnownLemmas.{failure_joined, steps_joined}
+use Rattle.home_opening.proofs.OpenedLemmas.{refused_for}
 use Rattle.home_opening.proofs.NumberLemmas.{one_number, numbers_over, numbers_refused, opened_more}
 use Rattle.home_opening.proofs.opening.+open_others.Goals as goal
 
@@ -45,3 +50,13 @@ returns-in-Ok-clause-numbers g t c =
     (map seen_of c.push_reserved.new.self.items) (map seen_of c.open_others.new.accounts.items)
     (ap (map seen_of) pushed ∙ map-append seen_of c.args.accounts.now.items (c.in-Ok.account ∷ []))
     c.open_others.ensures.numbers)
+
+pub returns-in-Err-clause-refused : goal.returns-in-Err-clause-refused
+returns-in-Err-clause-refused g t c =
+    let given = c.in-Err.given in
+    refused_for (seen_by g.B.Board.faults c.args.shared.now.first.device) c.args.shared.now.id c.args.opening.now
+    c.in-Err.fault given c.join.result
+    (λ failed. subst KnowsFailure (sym c.join.ensures.seat) (failure_joined c.split-rest.result.0 given failed))
+    (λ account own known. subst (λ (seat : SeatView Step). KnowsSteps seat account own) (sym c.join.ensures.seat)
+    (steps_joined c.split-rest.result.0 given account own known))
+    c.in-Err.ensures.refused

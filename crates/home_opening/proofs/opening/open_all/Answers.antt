@@ -1,5 +1,5 @@
 -- The others were opened, and then the first account.
-use Rattle.std.proofs.Common.{rules, ◌≡◌, ◌+◌, ◌-◌, [], ◌∷◌, ◌++◌, map, length, vec_len, ap, ◌∙◌}
+use Rattle.std.proofs.Common.{rules, ◌≡◌, ◌+◌, ◌-◌, ◌∷◌, ◌++◌, map, length, vec_len, ap, ◌∙◌}
 use Rattle.board_device.specs.Device.{seen_by}
 use Rattle.home_opening.specs.Locks.{AccountSeen, account_seen}
 use Rattle.home_opening.specs.declared.account.OpenedAccount.{OpenedAccount}

@@ -3,12 +3,10 @@ use Rattle.std.proofs.Common.{◌≡◌, ◌++◌, List, map, ap, ◌∙◌, sub
 use Rattle.board_device.specs.Device.{era_of}
 use Rattle.home_locks.specs.Accounts.{Started}
 use Rattle.home_locks.specs.Closing.{AreRecalled}
-use Rattle.home_locks.specs.Settled.{Settles}
 use Rattle.home_locks.specs.declared.account.Entry.{Entry}
 use Rattle.turn_lock.specs.Seats.{SeatView}
-use Rattle.turn_meaning.specs.Meanings.{user_rules}
 use Rattle.turn_meaning.specs.declared.taken.TurnTaken.{TurnTaken}
-use Rattle.user_accounts.specs.Parts.{parts_of, part_images_since}
+use Rattle.user_accounts.specs.Settled.{UsersSettle}
 use Rattle.user_state.specs.declared.state.UserState.{UserState}
 use Rattle.user_home.proofs.PartLemmas.{UserPart, UserWhole, part_seen, whole_seen, same_starts, same_clients, parts_whole, parts_numbers}
 use Rattle.user_home.proofs.settling.settle_accounts.Goals as goal
@@ -43,8 +41,7 @@ returns-clause-settled g c =
     let settled = c.settle.ensures.settled in (
       settled.0,
       settled.1,
-      λ opened. subst (λ (starts : List (Started UserState)). Settles (user_rules (era_of first)) starts
-          (parts_of disk first) (parts_of disk now) (part_images_since disk first now) settled.0
+      λ opened. subst (λ (starts : List (Started UserState)). UsersSettle disk first now starts settled.0
           c.settle.result.books.items) (same_starts parts wholes same) (settled.2 opened),
     )
 

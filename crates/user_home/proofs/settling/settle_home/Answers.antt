@@ -7,15 +7,13 @@ use Rattle.client_seats.specs.Clients.{ClientView, client_view, known_at}
 use Rattle.client_seats.specs.Gathering.{Knows}
 use Rattle.home_locks.specs.Accounts.{Started}
 use Rattle.home_locks.specs.Meanings.{client_of}
-use Rattle.home_locks.specs.Settled.{Settles}
 use Rattle.home_locks.specs.declared.account.Entry.{Entry}
 use Rattle.home_seats.specs.Seats.{LockSeen}
 use Rattle.platform_core.specs.Held as held
 use Rattle.turn_lock.specs.Lists.{entries_of}
 use Rattle.turn_lock.specs.Seats.{Lock, SeatView}
-use Rattle.turn_meaning.specs.Meanings.{user_rules}
 use Rattle.turn_meaning.specs.declared.taken.TurnTaken.{TurnTaken}
-use Rattle.user_accounts.specs.Parts.{parts_of, part_images_since}
+use Rattle.user_accounts.specs.Settled.{UsersSettle}
 use Rattle.user_state.specs.declared.state.UserState.{UserState}
 use Rattle.user_home.specs.Ending.{CanEnd}
 use Rattle.user_home.proofs.EndingLemmas.{as_many, each_image, each_recalled}
@@ -48,8 +46,7 @@ returns-clause-settled g c =
       settled.0,
       c.into_board.ensures.value ∙ ap held.board_of c.into_platform.ensures.value,
       settled.1,
-      λ opened. subst (λ (starts : List (Started UserState)). Settles (user_rules (era_of first)) starts
-          (parts_of disk first) (parts_of disk device) (part_images_since disk first device) settled.0
+      λ opened. subst (λ (starts : List (Started UserState)). UsersSettle disk first device starts settled.0
           c.close_locks-device.result.books.items)
           (whole_starts c.gather_seats-wholes.result.items c.args.home.locks.items c.gather_seats-wholes.ensures.locks)
           (settled.2 opened),
