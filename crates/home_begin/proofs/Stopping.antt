@@ -81,10 +81,11 @@ module _ {B : Type 0} (disk_of : B → Disk) (faults_of : B → ℕ) where
         All-contains (λ (known : ℕ × List (ℕ × Step)). entries_of account_of known.0 closed.chain ≡ known.1)
         (known_by seat) (account, own)
         (All-from_recursion (λ (known : ℕ × List (ℕ × Step)). entries_of account_of known.0 closed.chain ≡ known.1)
-        (known_by seat)
-        (closed.entries.own,
-        recursion_from_All (λ (known : ℕ × List (ℕ × Step)). entries_of account_of known.0 closed.chain ≡ known.1)
-        seat.joined closed.entries.joined)) known
+        (known_by seat) (
+          closed.entries.own,
+          recursion_from_All (λ (known : ℕ × List (ℕ × Step)). entries_of account_of known.0 closed.chain ≡ known.1)
+              seat.joined closed.entries.joined,
+        )) known
 
     -- no memory was left once the accounts were opened, and their locks were closed
     pub stops_for_memory : StopsAt disk_of faults_of device opening faults.NoMemory left

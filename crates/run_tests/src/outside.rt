@@ -48,7 +48,10 @@ pub fn board_of(
 ) -> Result<MemBoard, Fail> {
     let mut files = Vec::new(alloc);
     if let Some((name, bytes)) = file {
-        files.push((Text::from_str(alloc, name)?, Blob::from_slice(alloc, bytes)?))?;
+        files.push((
+            Text::from_str(alloc, name)?,
+            Blob::from_slice(alloc, bytes)?,
+        ))?;
     }
     let fails = listed(alloc, fail)?;
     Ok(MemBoard::new(alloc, files, [0; 256], fails)?)

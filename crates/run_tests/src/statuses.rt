@@ -20,18 +20,102 @@ struct Case {
 const EMPTY: [&str; 2] = ["", ""];
 
 const CASES: [Case; 12] = [
-    Case { words: "serve|d", clients: 1, desk_fail: None, source_fail: None, status: 0, said: "" },
-    Case { words: "serve|d|ann|bob", clients: 1, desk_fail: None, source_fail: None, status: 0, said: "" },
-    Case { words: "serve|--clients|2|d", clients: 2, desk_fail: None, source_fail: None, status: 0, said: "" },
-    Case { words: "serve", clients: 1, desk_fail: None, source_fail: None, status: 2, said: "bad words\n" },
-    Case { words: "serve|d|Ann", clients: 1, desk_fail: None, source_fail: None, status: 2, said: "bad words\n" },
-    Case { words: "serve|e", clients: 1, desk_fail: None, source_fail: None, status: 3, said: "board fault\n" },
-    Case { words: "serve|d", clients: 1, desk_fail: Some(2), source_fail: None, status: 3, said: "board fault\n" },
-    Case { words: "serve|d", clients: 0, desk_fail: None, source_fail: None, status: 6, said: "client fault 0\n" },
-    Case { words: "serve|--clients=2|d", clients: 1, desk_fail: None, source_fail: None, status: 6, said: "client fault 2\n" },
-    Case { words: "serve|--clients=2|d", clients: 2, desk_fail: None, source_fail: Some(1), status: 6, said: "client fault 1\n" },
-    Case { words: "serve|--clients=17|d|ann", clients: 1, desk_fail: None, source_fail: None, status: 7, said: "too many accounts 1 clients 17\n" },
-    Case { words: "serve|d", clients: 1, desk_fail: Some(1), source_fail: None, status: 9, said: "no entropy\n" },
+    Case {
+        words: "serve|d",
+        clients: 1,
+        desk_fail: None,
+        source_fail: None,
+        status: 0,
+        said: "",
+    },
+    Case {
+        words: "serve|d|ann|bob",
+        clients: 1,
+        desk_fail: None,
+        source_fail: None,
+        status: 0,
+        said: "",
+    },
+    Case {
+        words: "serve|--clients|2|d",
+        clients: 2,
+        desk_fail: None,
+        source_fail: None,
+        status: 0,
+        said: "",
+    },
+    Case {
+        words: "serve",
+        clients: 1,
+        desk_fail: None,
+        source_fail: None,
+        status: 2,
+        said: "bad words\n",
+    },
+    Case {
+        words: "serve|d|Ann",
+        clients: 1,
+        desk_fail: None,
+        source_fail: None,
+        status: 2,
+        said: "bad words\n",
+    },
+    Case {
+        words: "serve|e",
+        clients: 1,
+        desk_fail: None,
+        source_fail: None,
+        status: 3,
+        said: "board fault\n",
+    },
+    Case {
+        words: "serve|d",
+        clients: 1,
+        desk_fail: Some(2),
+        source_fail: None,
+        status: 3,
+        said: "board fault\n",
+    },
+    Case {
+        words: "serve|d",
+        clients: 0,
+        desk_fail: None,
+        source_fail: None,
+        status: 6,
+        said: "client fault 0\n",
+    },
+    Case {
+        words: "serve|--clients=2|d",
+        clients: 1,
+        desk_fail: None,
+        source_fail: None,
+        status: 6,
+        said: "client fault 2\n",
+    },
+    Case {
+        words: "serve|--clients=2|d",
+        clients: 2,
+        desk_fail: None,
+        source_fail: Some(1),
+        status: 6,
+        said: "client fault 1\n",
+    },
+    Case {
+        words: "serve|--clients=17|d|ann",
+        clients: 1,
+        desk_fail: None,
+        source_fail: None,
+        status: 7,
+        said: "too many accounts 1 clients 17\n",
+    },
+    Case {
+        words: "serve|d",
+        clients: 1,
+        desk_fail: Some(1),
+        source_fail: None,
+        status: 9,
+        said: "no entropy\n",
+    },
 ];
 
 #[test]
@@ -47,7 +131,12 @@ fn a_run_ends_with_its_status_and_text(rt: HostRuntime) -> Result<(), Fail> {
         };
         let outcome = run_over(&rt, alloc, board_of(alloc, None, None)?, &outside)?;
         assert_eq!(rt; outcome.status, case.status, "{}", case.words);
-        assert_eq!(rt; outcome.said.as_slice(), case.said.as_bytes(), "{}", case.words);
+        assert_eq!(rt;
+            outcome.said.as_slice(),
+            case.said.as_bytes(),
+            "{}",
+            case.words
+        );
     }
     Ok(())
 }
@@ -74,7 +163,14 @@ fn a_board_that_fails_and_a_record_outside_its_form_have_statuses(
     rt: HostRuntime,
 ) -> Result<(), Fail> {
     let alloc = rt.alloc();
-    let fails = board_of(alloc, None, Some(BoardFail { call: 1, done: false }))?;
+    let fails = board_of(
+        alloc,
+        None,
+        Some(BoardFail {
+            call: 1,
+            done: false,
+        }),
+    )?;
     let (status, said) = status_over(&rt, alloc, fails)?;
     assert_eq!(rt; status, 3);
     assert_eq!(rt; said.as_slice(), b"board fault\n".as_slice());

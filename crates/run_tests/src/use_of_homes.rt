@@ -14,37 +14,112 @@ const TOKEN: &str = "0000000000000001a04b39174b36cad66d376463cb99835c";
 
 // Lines of the first run with their replies, where T stands for the token.
 const FIRST: [(&str, &str); 19] = [
-    (r#"{"op":"list_files","account":"ann"}"#, r#"{"answer":"no_home"}"#),
+    (
+        r#"{"op":"list_files","account":"ann"}"#,
+        r#"{"answer":"no_home"}"#,
+    ),
     (r#"{"op":"create","account":"ann"}"#, r#"{"answer":"ok"}"#),
-    (r#"{"op":"create","account":"ann"}"#, r#"{"answer":"exists"}"#),
-    (r#"{"op":"create","account":"bob"}"#, r#"{"answer":"unknown_account"}"#),
-    (r#"{"op":"start_session","account":"ann","intent":"decrypt"}"#, r#"{"answer":"ok","ends":1300,"token":"T"}"#),
-    (r#"{"op":"add_factor","account":"ann","token":"T","label":"main","kind":"password","secret":"pw"}"#, r#"{"answer":"ok"}"#),
-    (r#"{"op":"add_factor","account":"ann","token":"T","label":"pin","kind":"pin","secret":"1234"}"#, r#"{"answer":"bad_line","fault":"bad_field","field":"kind"}"#),
-    (r#"{"op":"reset_pin","account":"ann","token":"T","label":"pin"}"#, r#"{"answer":"bad_line","fault":"unknown_op"}"#),
-    (r#"{"op":"list_factors","account":"ann"}"#, r#"{"answer":"ok","factors":[{"kind":"password","label":"main"}]}"#),
-    (r#"{"op":"remove_factor","account":"ann","token":"T","label":"main"}"#, r#"{"answer":"last_password"}"#),
-    (r#"{"op":"get_file","account":"ann","name":"note"}"#, r#"{"answer":"not_mounted"}"#),
-    (r#"{"op":"mount","account":"ann","token":"T"}"#, r#"{"answer":"ok"}"#),
-    (r#"{"op":"put_file","account":"ann","name":"note","data":"00FF"}"#, r#"{"answer":"ok"}"#),
-    (r#"{"op":"get_file","account":"ann","name":"note"}"#, r#"{"answer":"ok","data":"00ff"}"#),
-    (r#"{"op":"list_files","account":"ann"}"#, r#"{"answer":"ok","files":["note"]}"#),
-    (r#"{"op":"extend_session","account":"ann","token":"T","seconds":300}"#, r#"{"answer":"ok","ends":1600}"#),
+    (
+        r#"{"op":"create","account":"ann"}"#,
+        r#"{"answer":"exists"}"#,
+    ),
+    (
+        r#"{"op":"create","account":"bob"}"#,
+        r#"{"answer":"unknown_account"}"#,
+    ),
+    (
+        r#"{"op":"start_session","account":"ann","intent":"decrypt"}"#,
+        r#"{"answer":"ok","ends":1300,"token":"T"}"#,
+    ),
+    (
+        r#"{"op":"add_factor","account":"ann","token":"T","label":"main","kind":"password","secret":"pw"}"#,
+        r#"{"answer":"ok"}"#,
+    ),
+    (
+        r#"{"op":"add_factor","account":"ann","token":"T","label":"pin","kind":"pin","secret":"1234"}"#,
+        r#"{"answer":"bad_line","fault":"bad_field","field":"kind"}"#,
+    ),
+    (
+        r#"{"op":"reset_pin","account":"ann","token":"T","label":"pin"}"#,
+        r#"{"answer":"bad_line","fault":"unknown_op"}"#,
+    ),
+    (
+        r#"{"op":"list_factors","account":"ann"}"#,
+        r#"{"answer":"ok","factors":[{"kind":"password","label":"main"}]}"#,
+    ),
+    (
+        r#"{"op":"remove_factor","account":"ann","token":"T","label":"main"}"#,
+        r#"{"answer":"last_password"}"#,
+    ),
+    (
+        r#"{"op":"get_file","account":"ann","name":"note"}"#,
+        r#"{"answer":"not_mounted"}"#,
+    ),
+    (
+        r#"{"op":"mount","account":"ann","token":"T"}"#,
+        r#"{"answer":"ok"}"#,
+    ),
+    (
+        r#"{"op":"put_file","account":"ann","name":"note","data":"00FF"}"#,
+        r#"{"answer":"ok"}"#,
+    ),
+    (
+        r#"{"op":"get_file","account":"ann","name":"note"}"#,
+        r#"{"answer":"ok","data":"00ff"}"#,
+    ),
+    (
+        r#"{"op":"list_files","account":"ann"}"#,
+        r#"{"answer":"ok","files":["note"]}"#,
+    ),
+    (
+        r#"{"op":"extend_session","account":"ann","token":"T","seconds":300}"#,
+        r#"{"answer":"ok","ends":1600}"#,
+    ),
     (r#"{"op":"unmount","account":"ann"}"#, r#"{"answer":"ok"}"#),
-    (r#"{"op":"end_session","account":"ann","token":"T"}"#, r#"{"answer":"ok"}"#),
-    (r#"{"op":"mount","account":"ann","token":"T"}"#, r#"{"answer":"unknown_session"}"#),
+    (
+        r#"{"op":"end_session","account":"ann","token":"T"}"#,
+        r#"{"answer":"ok"}"#,
+    ),
+    (
+        r#"{"op":"mount","account":"ann","token":"T"}"#,
+        r#"{"answer":"unknown_session"}"#,
+    ),
 ];
 
 // Lines of the second run over the same board.
 const SECOND: [(&str, &str); 8] = [
-    (r#"{"op":"start_session","account":"ann","intent":"decrypt"}"#, r#"{"answer":"ok","ends":1300,"token":"T"}"#),
-    (r#"{"op":"mount","account":"ann","token":"T"}"#, r#"{"answer":"not_authorised"}"#),
-    (r#"{"op":"authenticate","account":"ann","token":"T","label":"main","secret":"no"}"#, r#"{"answer":"wrong"}"#),
-    (r#"{"op":"authenticate","account":"ann","token":"T","label":"main","secret":"pw"}"#, r#"{"answer":"ok","ends":1300}"#),
-    (r#"{"op":"mount","account":"ann","token":"T"}"#, r#"{"answer":"ok"}"#),
-    (r#"{"op":"get_file","account":"ann","name":"note"}"#, r#"{"answer":"ok","data":"00ff"}"#),
-    (r#"{"op":"update_factor","account":"ann","token":"T","label":"main","secret":"new"}"#, r#"{"answer":"ok"}"#),
-    (r#"{"op":"authenticate","account":"ann","token":"T","label":"main","secret":"pw"}"#, r#"{"answer":"wrong"}"#),
+    (
+        r#"{"op":"start_session","account":"ann","intent":"decrypt"}"#,
+        r#"{"answer":"ok","ends":1300,"token":"T"}"#,
+    ),
+    (
+        r#"{"op":"mount","account":"ann","token":"T"}"#,
+        r#"{"answer":"not_authorised"}"#,
+    ),
+    (
+        r#"{"op":"authenticate","account":"ann","token":"T","label":"main","secret":"no"}"#,
+        r#"{"answer":"wrong"}"#,
+    ),
+    (
+        r#"{"op":"authenticate","account":"ann","token":"T","label":"main","secret":"pw"}"#,
+        r#"{"answer":"ok","ends":1300}"#,
+    ),
+    (
+        r#"{"op":"mount","account":"ann","token":"T"}"#,
+        r#"{"answer":"ok"}"#,
+    ),
+    (
+        r#"{"op":"get_file","account":"ann","name":"note"}"#,
+        r#"{"answer":"ok","data":"00ff"}"#,
+    ),
+    (
+        r#"{"op":"update_factor","account":"ann","token":"T","label":"main","secret":"new"}"#,
+        r#"{"answer":"ok"}"#,
+    ),
+    (
+        r#"{"op":"authenticate","account":"ann","token":"T","label":"main","secret":"pw"}"#,
+        r#"{"answer":"wrong"}"#,
+    ),
 ];
 
 // Texts, each with a line feed, and with the token in place of T.

@@ -46,9 +46,9 @@ pub dealt_have_numbers : {T E : Type 0} (view : T → ClientView E) (locks : Lis
     → HaveEachNumber (map (λ client. (view client).number) clients) count
 dealt_have_numbers {E = E} view locks count clients dealt number within =
     let numbers : map (λ client. (view client).number) clients ≡ range_with_len 0 count =
-        sym (images_of (λ (client : ClientView E). client.number) view clients)
-        ∙ ap (λ (seen : List (ClientView E)). map (λ client. client.number) seen) dealt
-        ∙ new_numbers E locks 0 count in
+    sym (images_of (λ (client : ClientView E). client.number) view clients)
+    ∙ ap (λ (seen : List (ClientView E)). map (λ client. client.number) seen) dealt
+    ∙ new_numbers E locks 0 count in
     let once = (count_of-range_with_len 0 count number).inside (omega arith) (omega (arith, within)) in
     subst (λ (have : List ℕ). 0 < count_of number have) (sym numbers) (omega (arith, once))
 

@@ -38,23 +38,23 @@ returns-in-Ok-begin_asked g c =
     let named = (seen_of c.args.options).accounts in
     let names : left.names.items ≡ home.names.items = ap (λ names. names.items) c.serve_begun.ensures.names in
     let many : length left.books.items ≡ length home.names.items =
-        c.serve_begun.ensures.many
-        ∙ sym (length-map home.locks.items
-        (λ lock. lock_seen lock.id lock.first.seat lock.first.state lock.first.era))
-        ∙ c.in-Ok-begin_asked.ensures.servable.many in
+    c.serve_begun.ensures.many
+    ∙ sym (length-map home.locks.items
+    (λ lock. lock_seen lock.id lock.first.seat lock.first.state lock.first.era))
+    ∙ c.in-Ok-begin_asked.ensures.servable.many in
     let ended = subst
-        (λ (starts : List (Started UserState)). IsEnded outside home.shared.first.device starts left.board
-        left.books.items)
-        (sym (images_of (λ at. started_at at.seat at.state)
-        (λ lock. lock_seen lock.id lock.first.seat lock.first.state lock.first.era) home.locks.items))
-        c.serve_begun.ensures.ended in
+    (λ (starts : List (Started UserState)). IsEnded outside home.shared.first.device starts left.board
+    left.books.items)
+    (sym (images_of (λ at. started_at at.seat at.state)
+    (λ lock. lock_seen lock.id lock.first.seat lock.first.state lock.first.era) home.locks.items))
+    c.serve_begun.ensures.ended in
     let histories = histories_of outside is.handed named is.opening home.shared.first.device
-        home.shared.id home.names.items locks home.idle left.board left.books.items is.begun
-        (λ durable held. c.begun_accounts_open.ensures is.handed named is.opening
-        home.shared.first.device home.shared.id home.names.items locks home.idle durable is.begun held)
-        many ended in
+    home.shared.id home.names.items locks home.idle left.board left.books.items is.begun
+    (λ durable held. c.begun_accounts_open.ensures is.handed named is.opening
+    home.shared.first.device home.shared.id home.names.items locks home.idle durable is.begun held)
+    many ended in
     let ends = serves_since before between after outside c.first_client.result c.client_count.result
-        (left_over left) ending c.begin_asked.ensures.clients_kept is.quiet c.serve_begun.ensures.ends in
+    (left_over left) ending c.begin_asked.ensures.clients_kept is.quiet c.serve_begun.ensures.ends in
     record {
       did = inr (inr (record {
         handed = is.handed;
