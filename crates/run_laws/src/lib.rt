@@ -1,0 +1,6 @@
+//! What the top call's clause comes to where nothing outside is in the way.
+#![tactic(auto)]
+
+mod laws;
+
+pub use laws::quiet_runs_end_well;
