@@ -34,9 +34,9 @@ abbrev pub users_of : (ℕ → Durable) → ℕ → ℕ → User
 users_of durable moment account = opened (durable account) moment
 
 module _ {B S K C : Type 0} (outside : Outside B S K C) where
-  -- The premises: the board that was handed out told its content, and each crash would have left it; each account's
-  -- records held this durable part; no two inputs coincide that are recorded of the images and the books; the accounts
-  -- made fewer than 2^64 steps.
+  -- The premises: the board that was handed out told its content, and once its directory is synced each image has it;
+  -- each account's records held this durable part; no two inputs coincide that are recorded of the images and the books;
+  -- the accounts made fewer than 2^64 steps.
   pub record ArePremises (handed : B) (moment : ℕ) (first last : BoardDevice B) (chain : List Step)
       (names : List Bytes) (books : List (List (Entry TurnTaken))) (durable : ℕ → Durable) : Type 0 where
     pub told : IsTold (outside.disk handed)
