@@ -13,7 +13,7 @@ use Rattle.share_api.specs.declared.step.Reply.{Reply}
 use Rattle.share_api.specs.declared.step.Write.{Write}
 use Rattle.share_api.proofs.TryLaws.{write_tries}
 use Rattle.stored_home.specs.declared.fault.StoreFault.{StoreFault}
-use Rattle.stored_home.specs.declared.fault.StoreFault.TheVariants.{Failed, NoMemory}
+use Rattle.stored_home.specs.declared.fault.StoreFault.TheVariants.{Failed}
 use Rattle.pin_edits.specs.Writes.{ended, inserted, inserted_reply}
 
 -- it is Ok where the call was, and a fault where it was
@@ -79,15 +79,7 @@ tries_told old new writes went err ok failed tried goes fails = record {
   fails = λ f. tried.fails (fails f);
 }
 
--- want of memory is no failed step
-pub memory_not_err : ◌≡◌ {A = Result Unit StoreFault} (Err NoMemory) (Err Failed) → ⊥
-memory_not_err e = cc e
-
-pub err_not_memory : (fault : StoreFault) (result : Result Unit StoreFault)
-    → ◌≡◌ {A = Result Unit StoreFault} (Err fault) (Err Failed) → result ≡ Err fault → result ≡ Err NoMemory → ⊥
-err_not_memory fault result failed is memory = memory_not_err (sym memory ∙ is ∙ failed)
-
--- a fault that is a failed step is no want of memory
-pub failed_not_memory : (result : Result Unit StoreFault) → (IsErr result → IsErrOf result Failed)
-    → result ≡ Err NoMemory → ⊥
-failed_not_memory result only is = memory_not_err (sym is ∙ only (subst IsErr (sym is) refl))
+-- a fault that is a failed step, whatever the result would have been
+pub fault_same : {A : Type 0} (fault : StoreFault)
+    → ◌≡◌ {A = Result A StoreFault} (Err fault) (Err Failed) → fault ≡ Failed
+fault_same fault e = cc

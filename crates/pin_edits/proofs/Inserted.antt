@@ -1,12 +1,12 @@
 -- An edit that inserts a leaf, and then tries changes that the leaf's label gives.
-use Rattle.std.proofs.Common.{◌≡◌, ℕ, List, [], ◌∷◌, None, Bool, false, refl, sym, ap, ◌∙◌, subst, ◌⊎◌, inl, inr, ⊎_elim}
+use Rattle.std.proofs.Common.{◌≡◌, ℕ, List, [], ◌∷◌, None, Bool, false, refl, sym, ap, ◌∙◌, subst, inl, inr, ⊎_elim}
 use Rattle.std.specs.Prelude.{is_some}
 use Rattle.std.specs.FinMap.{get}
 use Rattle.account_machine.specs.declared.user.Durable.{Durable}
-use Rattle.share_api.specs.Contents.{Bytes, Contents, settled}
+use Rattle.share_api.specs.Contents.{Bytes, Contents}
 use Rattle.share_api.specs.Folds.{Fold, Throughout}
-use Rattle.share_api.specs.Seen.{ShareSeen, Makes, Tries, HasFailed, step_of}
-use Rattle.share_api.specs.Steps.{Does, Leads, Follows, AllDone, after, with_leaf, doubted, leaf_of}
+use Rattle.share_api.specs.Seen.{ShareSeen, Makes, Tries, step_of}
+use Rattle.share_api.specs.Steps.{Does, Leads, Follows, after, with_leaf, doubted, leaf_of}
 use Rattle.share_api.specs.declared.leaf.Leaf.{Leaf}
 use Rattle.share_api.specs.declared.leaf.NewLeaf.{NewLeaf}
 use Rattle.share_api.specs.declared.step.Op.TheVariants.{InsertLeaf}
@@ -23,7 +23,7 @@ use Rattle.stored_home.specs.Loaded.{IsKept}
 use Rattle.stored_home.specs.declared.stored.Stored.{Stored}
 use Rattle.stored_home.proofs.ChangeLemmas.{doubted_settled}
 use Rattle.home_edits.specs.Edits.{Starts, Edits}
-use Rattle.pin_edits.proofs.OneStep.{Steps, edits_one}
+use Rattle.pin_edits.proofs.OneStep.{Steps}
 
 -- a leaf in doubt counts as taken away
 doubted_held : (account : Bytes) (keys : Keys) (contents : Contents) (durable : Durable) (tree : ℕ) (leaf : Leaf)

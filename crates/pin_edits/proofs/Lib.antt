@@ -14,3 +14,8 @@ pub mod PayloadHeld
 pub mod Inserted
 pub mod PinAdded
 pub mod PinSet
+pub mod NamedFaults
+pub mod FreeLeaves
+pub mod PinCosts
+pub mod PinCounts
+pub mod PinCoherent

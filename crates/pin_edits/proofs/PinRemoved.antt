@@ -191,7 +191,7 @@ remove_edits old new account stored later stash row tree ok failed went err labe
     is_later)
 
 -- the removals of a leaf and of a record put no factor's record
-leaf_removal_suits : (account : Bytes) (tree cost : ℕ) → Suited (HasCost account cost) (RemoveLeaf tree)
+pub leaf_removal_suits : (account : Bytes) (tree cost : ℕ) → Suited (HasCost account cost) (RemoveLeaf tree)
 leaf_removal_suits account tree cost step op label edition other found same there =
     let both : ◌≡◌ {A = Op} (Do (RemoveLeaf tree)) (Do (Put (factor_name account label edition) other)) = sym op ∙ same in
     absurd (cc both)

@@ -5,7 +5,6 @@ use Rattle.std.specs.FinMap.{insert}
 use Rattle.secret_stash.specs.Edits.{live_resets, with_payload, sealed_payload}
 use Rattle.secret_stash.specs.Keys.{opened_payload}
 use Rattle.share_api.specs.Contents.{Bytes}
-use Rattle.stash_format.specs.Resets.{Resets}
 use Rattle.stash_format.specs.Sizes.{payload_size, most_payload}
 use Rattle.stash_format.specs.declared.contents.Contents.{Contents as Stash}
 use Rattle.stash_format.specs.declared.payload.Payload.{Payload}
@@ -46,3 +45,9 @@ pin_stash_is stash label pin main iv later mid new payload adds mid_is new_is op
       })) whole held;
       short = subst (λ (s : Stash). payload_size s ≤ most_payload) whole short;
     }
+
+-- the payload of such a stash is no longer than the grammar's
+pub pin_stash_short : (stash : Stash) (label : Bytes) (pin : NewPin) (main iv : Bytes) (made : Stash)
+    → IsPinStash stash label pin main iv made → payload_size made ≤ most_payload
+pin_stash_short stash label pin main iv made is =
+    subst (λ (s : Stash). payload_size s ≤ most_payload) (sym is.made_is) is.short

@@ -37,17 +37,28 @@ IsResetFault account label edition tree (Damaged name) =
 IsResetFault account label edition tree NoMemory = Unit {0}
 IsResetFault account label edition tree (TreeLost host chip) = Unit {0}
 
+-- the faults of naming a new leaf in its PIN's record: the leaf is damaged where a loaded record names it already
+abbrev pub IsNamedFault : Bytes → ℕ → StoreFault → Type 0
+IsNamedFault account tree Failed = ⊥
+IsNamedFault account tree (Damaged name) = name ≡ leaf_name account tree
+IsNamedFault account tree NoMemory = Unit {0}
+IsNamedFault account tree (TreeLost host chip) = ⊥
+
+-- the damaged record is the account's stash or a leaf
+abbrev pub IsStashOrLeaf : Bytes → Bytes → Type 0
+IsStashOrLeaf account name = (name ≡ stash_name account) ⊎ ((tree : ℕ) × (name ≡ leaf_name account tree))
+
 -- the faults of an edit that sets a PIN where the tree isn't lost
 abbrev pub IsHeldFault : Bytes → StoreFault → Type 0
 IsHeldFault account Failed = Unit {0}
-IsHeldFault account (Damaged name) = name ≡ stash_name account
+IsHeldFault account (Damaged name) = IsStashOrLeaf account name
 IsHeldFault account NoMemory = Unit {0}
 IsHeldFault account (TreeLost host chip) = ⊥
 
--- the faults of an edit that sets a PIN: a damaged record is the stash's
+-- the faults of an edit that sets a PIN: a damaged record is the stash or the new leaf
 abbrev pub IsSetFault : Bytes → StoreFault → Type 0
 IsSetFault account Failed = Unit {0}
-IsSetFault account (Damaged name) = name ≡ stash_name account
+IsSetFault account (Damaged name) = IsStashOrLeaf account name
 IsSetFault account NoMemory = Unit {0}
 IsSetFault account (TreeLost host chip) = Unit {0}
 

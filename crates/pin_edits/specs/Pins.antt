@@ -1,10 +1,11 @@
 -- New PINs: their leaves, records and blocks, and what their edits ask.
-use Rattle.std.specs.Prelude.{◌≡◌, ◌⊎◌, ℕ, ◌≤◌, List, [], ◌∷◌, None, Some, Result, Ok, Err, IsOk, IsErr, length, take}
-use Rattle.std.specs.FinMap.{insert, len}
+use Rattle.std.specs.Prelude.{◌≡◌, ◌⊎◌, ℕ, ◌≤◌, ◌<◌, ◌==◌, Bool, false, [], ◌∷◌, Option, None, Some, Result, Ok, Err, IsOk, IsErr, length, take}
+use Rattle.std.specs.FinMap.{get, insert, len}
 use Rattle.account_machine.specs.declared.factor.Kind.TheVariants.{Pin}
 use Rattle.account_machine.specs.declared.user.Durable.{Durable}
 use Rattle.account_machine.specs.Effect.{with_factor}
 use Rattle.factor_files.specs.declared.factor.FactorRecord.{FactorRecord}
+use Rattle.record_names.specs.Names.{factor_name}
 use Rattle.scrypt_kdf.specs.Derive.{derive}
 use Rattle.sealed_text.specs.declared.sealed.Sealed.{Sealed}
 use Rattle.secret_stash.specs.Edits.{live_resets}
@@ -14,7 +15,7 @@ use Rattle.share_api.specs.Folds.{Fold}
 use Rattle.share_api.specs.Seen.{ShareSeen, Tries}
 use Rattle.share_api.specs.Steps.{Does}
 use Rattle.share_api.specs.declared.step.Write.{Write}
-use Rattle.share_api.specs.declared.step.Write.TheVariants.{RemoveLeaf}
+use Rattle.share_api.specs.declared.step.Write.TheVariants.{Remove, RemoveLeaf}
 use Rattle.share_api.specs.declared.leaf.NewLeaf.{NewLeaf}
 use Rattle.stash_format.specs.Resets.{Resets}
 use Rattle.stash_format.specs.Sizes.{most_payload}
@@ -23,13 +24,15 @@ use Rattle.stash_format.specs.declared.contents.Contents.{Contents as Stash}
 use Rattle.stash_format.specs.declared.payload.Payload.{Payload}
 use Rattle.stored_home.specs.Bounds.{HasBounds}
 use Rattle.stored_home.specs.Changes.{stash_with}
+use Rattle.stored_home.specs.Coherent.{RowNames, pin_rows}
 use Rattle.stored_home.specs.Holds.{Keys}
+use Rattle.stored_home.specs.Loaded.{Rows}
 use Rattle.stored_home.specs.declared.derived.Derived.{Derived}
 use Rattle.stored_home.specs.declared.fault.StoreFault.{StoreFault}
-use Rattle.stored_home.specs.declared.fault.StoreFault.TheVariants.{Failed, NoMemory}
+use Rattle.stored_home.specs.declared.fault.StoreFault.TheVariants.{Failed}
 use Rattle.stored_home.specs.declared.stored.Stored.{Stored}
 use Rattle.home_edits.specs.Edits.{Edits}
-use Rattle.pin_edits.specs.Writes.{IsRowWrite}
+use Rattle.pin_edits.specs.Writes.{IsRowWrite, rest_of}
 use Rattle.pin_edits.specs.declared.pin_stash.NewPin.{NewPin}
 
 -- the leaf of a PIN that was never tried
@@ -88,13 +91,35 @@ pub record SetsPin (label : Bytes) (pin : NewPin) (main : Bytes) (contents : Con
   pub after_is : after ≡ with_factor before label Pin secret pin.schedule
   pub bounds : HasBounds after
 
--- Once the leaf of a PIN's record is inserted the record is put, and then the stash. Where there was no memory for the
--- record, the leaf is removed again.
-abbrev pub PutsPin : ShareSeen → ShareSeen → Bytes → FactorRecord → ℕ → Write → Result Unit StoreFault → Type 0
-PutsPin old new account row tree put result =
-    ((write : Write) × IsRowWrite account row write × (result ≡ Err NoMemory → ⊥)
-    × Tries old new (write ∷ put ∷ []) (IsOk result) (result ≡ Err Failed))
-    ⊎ ((IsOk result → ⊥) × Tries old new (RemoveLeaf tree ∷ []) (result ≡ Err NoMemory) (result ≡ Err Failed))
+-- whether a record that names this leaf, or none, names the other
+abbrev pub names_tree : ℕ → Option ℕ → Bool
+names_tree tree None = false
+names_tree tree (Some leaf) = leaf == tree
+
+-- no loaded record names this leaf
+abbrev pub IsFreeLeaf : Rows → ℕ → Type 0
+IsFreeLeaf rows tree = (label : Bytes) → RowNames rows label tree → ⊥
+
+-- The removals of what the label's factor had: nothing of a new label, and of a PIN its leaf and its record.
+abbrev pub IsOldPin : Bytes → Rows → Bytes → Option (Write × Write) → Type 0
+IsOldPin account rows label None = get rows label ≡ None
+IsOldPin account rows label (Some old) =
+    (row : FactorRecord) × (tree : ℕ) × (get rows label ≡ Some row) × (row.leaf ≡ Some tree)
+    × (old.0 ≡ RemoveLeaf tree) × (old.1 ≡ Remove (factor_name account label row.edition))
+
+-- a PIN that is new has room beside the others
+abbrev pub HasRoom : Rows → Option (Write × Write) → Type 0
+HasRoom rows None = pin_rows rows < 8
+HasRoom rows (Some old) = Unit {0}
+
+-- Once the leaf of a PIN's record is inserted the record is put, and then the stash, and then these changes are made.
+-- Where the record can't be named so, the leaf is removed again.
+abbrev pub PutsPin : ShareSeen → ShareSeen → Bytes → FactorRecord → ℕ → Write → Option (Write × Write)
+    → Result Unit StoreFault → Type 0
+PutsPin old new account row tree put had result =
+    ((write : Write) × IsRowWrite account row write × (IsErr result → result ≡ Err Failed)
+    × Tries old new (write ∷ put ∷ rest_of had) (IsOk result) (result ≡ Err Failed))
+    ⊎ ((IsOk result → ⊥) × Tries old new (RemoveLeaf tree ∷ []) (result ≡ Err Failed → ⊥) (result ≡ Err Failed))
 
 -- The edit of a PIN which changes nothing where it is refused.
 pub record EditsPin (old new : ShareSeen) (account : Bytes) (stored after : Stored) (result : Result Unit StoreFault)

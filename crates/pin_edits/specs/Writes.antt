@@ -1,5 +1,5 @@
 -- Changes that are to be made.
-use Rattle.std.specs.Prelude.{◌≡◌, ℕ, ◌≤◌, Option, Some, Result, Ok, Err, length}
+use Rattle.std.specs.Prelude.{◌≡◌, ℕ, ◌≤◌, List, [], ◌∷◌, Option, None, Some, Result, Ok, Err, length}
 use Rattle.factor_files.specs.Record.{factor_at}
 use Rattle.factor_files.specs.declared.factor.FactorRecord.{FactorRecord}
 use Rattle.record_names.specs.Names.{stash_name, factor_name}
@@ -21,6 +21,16 @@ abbrev pub IsOwnWrite : Option Bytes → Write → Type 0
 IsOwnWrite owner (Put name bytes) = IsOwnName owner name × (length bytes ≤ 49181)
 IsOwnWrite owner (Remove name) = IsOwnName owner name
 IsOwnWrite owner (RemoveLeaf label) = Unit {0}
+
+-- the changes that take away what a PIN had: its leaf, and then its record
+abbrev pub rest_of : Option (Write × Write) → List Write
+rest_of None = []
+rest_of (Some old) = old.0 ∷ old.1 ∷ []
+
+-- the share may be asked for them
+abbrev pub IsOwnRest : Option Bytes → Option (Write × Write) → Type 0
+IsOwnRest owner None = Unit {0}
+IsOwnRest owner (Some old) = IsOwnWrite owner old.0 × IsOwnWrite owner old.1
 
 -- how a change ended: each fault of it is that it failed
 abbrev pub ended : Result Unit ShareFault → Result Unit StoreFault

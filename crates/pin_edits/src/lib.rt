@@ -7,11 +7,14 @@ mod pin_stash;
 mod records;
 mod removal;
 mod resetting;
+mod setting;
 mod steps;
 mod trying;
+mod updating;
 
 pub use adding::add_pin;
 pub use pin_stash::NewPin;
 pub use removal::remove_pin;
 pub use resetting::reset_pin;
 pub use trying::try_pin;
+pub use updating::update_pin;

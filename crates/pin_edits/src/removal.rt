@@ -52,8 +52,12 @@ fn prepare_removal(account: &str, stash: &Stash, label: &Text) -> Result<(Stash,
     Ok((made, put))
 }
 
-// The removals of a PIN's leaf and of its record.
-fn removals_of(account: &str, rows: &NameMap<FactorRecord>, label: &Text) -> (Write, Write)
+/// The removals of a PIN's leaf and of its record.
+pub(crate) fn removals_of(
+    account: &str,
+    rows: &NameMap<FactorRecord>,
+    label: &Text,
+) -> (Write, Write)
     requires plain { IsTrue (is_account_name account.now) }
     requires label { IsTrue (is_factor_label label.now) }
     requires known { IsSomeAnd (get rows.now label.now) (λ row. IsSome row.leaf) }

@@ -2,7 +2,7 @@ use Rattle.std.proofs.Common.{Some, refl, sym, subst}
 use Rattle.stash_format.specs.Kept.{HasBoth}
 use Rattle.home_edits.proofs.StashLemmas.{both_with}
 use Rattle.pin_edits.specs.Pins.{pin_block}
-use Rattle.pin_edits.proofs.adding.prepare.Goals as goal
+use Rattle.pin_edits.proofs.setting.prepare.Goals as goal
 
 -- the payload is there, and so is the block
 pub stash_write-requires-clause-both : goal.stash_write-requires-clause-both
