@@ -1,0 +1,4 @@
+pub mod NameLemmas
+pub mod CallLemmas
+pub mod ShownLemmas
+pub mod StorableLemmas

@@ -1,0 +1,98 @@
+//! The laws of images and platforms. Each function has an empty body: its contract is the law.
+
+ghost use Rattle.std.specs.Prelude.{◌≤◌, ◌<◌, ℕ, List, length, Some, None};
+ghost use Rattle.board_model.specs.Disk.{Image};
+ghost use Rattle.staged_file.specs.Staged.{Kept, Replaced, KeptOr};
+ghost use Rattle.leaf_writes.specs.Writes.{StoredAlone, StoredWith, NoneOneOrBoth};
+ghost use Rattle.record_names.specs.Names.{leaf_name};
+ghost use Rattle.share_api.specs.Contents.{Bytes};
+ghost use Rattle.platform_core.specs.Records.{IsRecordOf, account_at};
+ghost use Rattle.pin_recovery.specs.Devices.{AreInStep};
+ghost use Rattle.pin_recovery.specs.LeafCalls.{LeafOp, label_of};
+ghost use Rattle.platform_model.specs.Views.{Platform};
+ghost use Rattle.platform_model.specs.Steps.{Op, Puts, Removes, Asks, done_by, IsAllowedOp};
+ghost use Rattle.platform_model.specs.Crashes.{halfway, IsImageOf};
+ghost use Rattle.platform_images.specs.Shown.{AreAccounts, Shows, IsStorable, ShowsImageOf, AwaitsCall};
+ghost use Rattle.platform_images.specs.Shown.{words_after, record_after};
+
+/// Where an image shows a platform in step, each image that the two writes of a leaf call of an account may leave of
+/// it shows the platform before the call, between its writes, or after it.
+pub fn two_writes_show_the_step()
+    ensures any_moment { (accounts : List Bytes) (old new : Image) (s : Platform) (number : ℕ) (op : LeafOp) (now : ℕ)
+        → AwaitsCall accounts old s number op now
+        → NoneOneOrBoth (words_after s op now) (leaf_name (account_at accounts number) (label_of op))
+        (record_after s op now) old new
+        → ShowsImageOf accounts new s number (Asks op) now }
+    // With the words stored alone the image shows the platform between the two writes.
+    ensures between { (accounts : List Bytes) (old new : Image) (s : Platform) (number : ℕ) (op : LeafOp) (now : ℕ)
+        → AwaitsCall accounts old s number op now
+        → StoredAlone (words_after s op now) old new
+        → Shows accounts new (halfway s number op now) }
+    // With both writes done it shows the platform after the call.
+    ensures done { (accounts : List Bytes) (old new : Image) (s : Platform) (number : ℕ) (op : LeafOp) (now : ℕ)
+        → AwaitsCall accounts old s number op now
+        → StoredWith (words_after s op now) (leaf_name (account_at accounts number) (label_of op))
+        (record_after s op now) old new
+        → Shows accounts new (done_by s number (Asks op) now) }
+{}
+
+/// Where an image shows a platform, each image that a put of an account's record may leave of it shows the platform
+/// before the put or after it.
+pub fn a_put_shows_the_step()
+    ensures any_moment { (accounts : List Bytes) (old new : Image) (s : Platform) (number : ℕ) (name bytes : Bytes)
+        (now : ℕ)
+        → AreAccounts accounts
+        → Shows accounts old s
+        → IsRecordOf (account_at accounts number) name
+        → length bytes ≤ 49182
+        → KeptOr (Replaced name (Some bytes)) old new
+        → ShowsImageOf accounts new s number (Puts name bytes) now }
+    // Once it is done the image shows the platform after it.
+    ensures done { (accounts : List Bytes) (old new : Image) (s : Platform) (number : ℕ) (name bytes : Bytes)
+        (now : ℕ)
+        → AreAccounts accounts
+        → Shows accounts old s
+        → IsRecordOf (account_at accounts number) name
+        → length bytes ≤ 49182
+        → Replaced name (Some bytes) old new
+        → Shows accounts new (done_by s number (Puts name bytes) now) }
+{}
+
+/// Where an image shows a platform, each image that a removal of an account's record may leave of it shows the
+/// platform before the removal or after it.
+pub fn a_removal_shows_the_step()
+    ensures any_moment { (accounts : List Bytes) (old new : Image) (s : Platform) (number : ℕ) (name : Bytes)
+        (now : ℕ)
+        → AreAccounts accounts
+        → Shows accounts old s
+        → IsRecordOf (account_at accounts number) name
+        → KeptOr (Replaced name None) old new
+        → ShowsImageOf accounts new s number (Removes name) now }
+    // Once it is done the image shows the platform after it.
+    ensures done { (accounts : List Bytes) (old new : Image) (s : Platform) (number : ℕ) (name : Bytes) (now : ℕ)
+        → AreAccounts accounts
+        → Shows accounts old s
+        → IsRecordOf (account_at accounts number) name
+        → Replaced name None old new
+        → Shows accounts new (done_by s number (Removes name) now) }
+{}
+
+/// Images that are alike but for temporary files show the same platforms, as after a look or a sync.
+pub fn alike_images_show_the_same()
+    ensures { (accounts : List Bytes) (old new : Image) (s : Platform)
+        → AreAccounts accounts
+        → Kept old new
+        → Shows accounts old s
+        → Shows accounts new s }
+{}
+
+/// What a crash may leave of a storable platform in an allowed step of an account is storable.
+pub fn each_image_of_a_step_is_storable()
+    ensures { (accounts : List Bytes) (s q : Platform) (number : ℕ) (op : Op) (now : ℕ)
+        → IsStorable accounts s
+        → AreInStep s.devices
+        → number < length accounts
+        → IsAllowedOp s number op now
+        → IsImageOf s number op now q
+        → IsStorable accounts q }
+{}

@@ -1,0 +1,9 @@
+//! What a board's image shows of the platform with its chip, and what a step's writes make of it.
+#![tactic(auto)]
+
+mod laws;
+
+pub use laws::{
+    a_put_shows_the_step, a_removal_shows_the_step, alike_images_show_the_same,
+    each_image_of_a_step_is_storable, two_writes_show_the_step,
+};
