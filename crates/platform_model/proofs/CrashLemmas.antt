@@ -13,45 +13,45 @@ use Rattle.platform_model.proofs.ViewLemmas.{view_unused}
 use Rattle.platform_model.proofs.StepLemmas.{other_leaves, other_view, in_step_after}
 
 -- openings that are cut off lose nothing
-cut_openings : (d : Devices) (t : Leaves) (moments : List ℕ) (q : Devices) → Recovers d t → AreCutOpenings d moments q → Recovers q t
+pub cut_openings : (d : Devices) (t : Leaves) (moments : List ℕ) (q : Devices) → Recovers d t → AreCutOpenings d moments q → Recovers q t
 unfolding AreCutOpenings
 cut_openings d t [] q r e = subst (λ z. Recovers z t) (sym e) r
 cut_openings d t (moment ∷ moments) q r c =
     let mid = c.1 in cut_openings mid.0 t moments q (opening_images d t moment mid.0 r c.0 mid.1.0) mid.1.1
 
 -- what the next opening leaves
-record IsOpenedTo (s : Platform) (d : Devices) (moment : ℕ) (t : Leaves) : Type 0 where
-  in_step : AreInStep (opened s d moment).devices
-  leaves : (opened s d moment).devices.leaves ≡ t
+pub record IsOpenedTo (s : Platform) (d : Devices) (moment : ℕ) (t : Leaves) : Type 0 where
+  pub in_step : AreInStep (opened s d moment).devices
+  pub leaves : (opened s d moment).devices.leaves ≡ t
 
 -- what recovers is opened to these leaves, however many openings were cut off
-opened_to : (s : Platform) (t : Leaves) (moments : List ℕ) (d : Devices) (moment : ℕ) → Recovers s.devices t → AreCutOpenings s.devices moments d → moment < 2 ^ 40 → IsOpenedTo s d moment t
+pub opened_to : (s : Platform) (t : Leaves) (moments : List ℕ) (d : Devices) (moment : ℕ) → Recovers s.devices t → AreCutOpenings s.devices moments d → moment < 2 ^ 40 → IsOpenedTo s d moment t
 opened_to s t moments d moment r c small =
     let b = booted_recovers d t moment (cut_openings s.devices t moments d r c) in
     record { in_step = b.in_step moment small; leaves = b.gives }
 
 -- an account's view once it is known which leaves are there
-seen : (s : Platform) (d : Devices) (moment : ℕ) (t : Leaves) (a : ℕ) → IsOpenedTo s d moment t → view_of (opened s d moment) a ≡ record { records = s.records a; leaves = owned s.owners t a }
+pub seen : (s : Platform) (d : Devices) (moment : ℕ) (t : Leaves) (a : ℕ) → IsOpenedTo s d moment t → view_of (opened s d moment) a ≡ record { records = s.records a; leaves = owned s.owners t a }
 seen s d moment t a o = let e = o.leaves in λ i. record { records = s.records a; leaves = owned s.owners (e i) a }
 
 -- from this state on, each opening gives the views of one of two states
-abbrev Reopens : Platform → Platform → ℕ → Platform → Type 0
+abbrev pub Reopens : Platform → Platform → ℕ → Platform → Type 0
 Reopens old new account q = (moments : List ℕ) (d : Devices) (moment : ℕ) → AreCutOpenings q.devices moments d → moment < 2 ^ 40 → IsReopened old new account (opened q d moment)
 
 -- an image that has one of two states' views is opened to them
-reopens_old : (old new : Platform) (account : ℕ) → Recovers old.devices old.devices.leaves → Reopens old new account old
+pub reopens_old : (old new : Platform) (account : ℕ) → Recovers old.devices old.devices.leaves → Reopens old new account old
 reopens_old old new account r moments d moment c small =
     let o = opened_to old old.devices.leaves moments d moment r c small in
     record { in_step = o.in_step; others = λ b ne. seen old d moment old.devices.leaves b o; own = inl (seen old d moment old.devices.leaves account o) }
 
 -- the state after the step does
-reopens_new : (old new : Platform) (account : ℕ) → Recovers new.devices new.devices.leaves → ((b : ℕ) → b ≢ account → view_of new b ≡ view_of old b) → Reopens old new account new
+pub reopens_new : (old new : Platform) (account : ℕ) → Recovers new.devices new.devices.leaves → ((b : ℕ) → b ≢ account → view_of new b ≡ view_of old b) → Reopens old new account new
 reopens_new old new account r others moments d moment c small =
     let o = opened_to new new.devices.leaves moments d moment r c small in
     record { in_step = o.in_step; others = λ b ne. seen new d moment new.devices.leaves b o ∙ others b ne; own = inr (seen new d moment new.devices.leaves account o) }
 
 -- a label's new owner sees nothing before the leaf is there
-owners_unseen : (s : Platform) (account : ℕ) (op : LeafOp) (b : ℕ) → IsAllowedLeaf s account op → owned (owners_after op account s.owners) s.devices.leaves b ≡ owned s.owners s.devices.leaves b
+pub owners_unseen : (s : Platform) (account : ℕ) (op : LeafOp) (b : ℕ) → IsAllowedLeaf s account op → owned (owners_after op account s.owners) s.devices.leaves b ≡ owned s.owners s.devices.leaves b
 unfolding IsAllowedLeaf
 owners_unseen s account (InsertLeaf label les hes reset schedule iv) b free = view_unused s.owners s.devices.leaves label account free b
 owners_unseen s account (TryLeaf label les) b ok = refl
@@ -79,7 +79,7 @@ reopens_half s account op now h ok allowed (inr r) moments d moment c small =
     }
 
 -- so each image of a step does
-survives : (s : Platform) (account : ℕ) (op : Op) (now : ℕ) (q : Platform) → AreInStep s.devices → IsAllowedOp s account op now → IsImageOf s account op now q
+pub survives : (s : Platform) (account : ℕ) (op : Op) (now : ℕ) (q : Platform) → AreInStep s.devices → IsAllowedOp s account op now → IsImageOf s account op now q
     → Reopens s (done_by s account op now) account q
 unfolding IsImageOf
 survives s account Looks now q h ok e = subst (Reopens s s account) (sym e) (reopens_old s s account (in_step_recovers s.devices h))

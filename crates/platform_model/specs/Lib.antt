@@ -1,3 +1,5 @@
 pub mod Views
 pub mod Steps
 pub mod Crashes
+pub mod Settling
+pub mod Runs
