@@ -1,8 +1,9 @@
 -- Edits of PINs where the tree is lost, and where it isn't.
 use Rattle.std.proofs.Common.{◌≡◌, false, Option, None, Some, Result, Ok, Err, refl, sym, ap, ◌∙◌}
 use Rattle.std.specs.Prelude.{is_some}
+use Rattle.share_api.specs.Contents.{Bytes}
 use Rattle.stored_home.specs.declared.fault.StoreFault.{StoreFault}
-use Rattle.stored_home.specs.declared.fault.StoreFault.TheVariants.{Failed, TreeLost}
+use Rattle.stored_home.specs.declared.fault.StoreFault.TheVariants.{Failed, Damaged, TreeLost}
 use Rattle.stored_home.specs.declared.stored.LostTree.{LostTree}
 use Rattle.pin_edits.specs.Faults.{tree_test}
 
@@ -36,3 +37,12 @@ pub stopped_calm : {A : Type 0} (lost : Option LostTree) (fault : StoreFault) (r
     → Err fault ≡ tree_test lost → result ≡ Err fault → result ≡ Err Failed → ⊥
 stopped_calm lost fault result is same failed =
     let at = stopped lost fault is in lost_not_failed result at.0 (same ∙ ap Err at.2) failed
+
+-- and tells no damaged record
+pub stopped_undamaged : {A : Type 0} (lost : Option LostTree) (fault : StoreFault) (result : Result A StoreFault)
+    → Err fault ≡ tree_test lost → result ≡ Err fault → (name : Bytes) → result ≡ Err (Damaged name) → ⊥
+stopped_undamaged {A} lost fault result is same name damaged =
+    let at = stopped lost fault is in
+    let both : ◌≡◌ {A = Result A StoreFault} (Err (TreeLost at.0.host at.0.chip)) (Err (Damaged name)) =
+    sym (same ∙ ap Err at.2) ∙ damaged in
+    cc both

@@ -70,11 +70,18 @@ pub one_step : (old new : ShareSeen) (account : Bytes) (stored : Stored) (ok fai
 unfolding edits_one
 one_step old new account stored ok failed Asks step found makes fails done steps = refl
 
--- an edit that made no step changes nothing
+-- an edit that made no step has none
+pub steps_none : (old : ShareSeen) (account : Bytes) (stored after : Stored) (ok failed : Type 0)
+    (Asks : Contents → Keys → Durable → Durable → Type 0) (edits : Edits old old account stored after ok failed Asks)
+    → edits.steps ≡ []
+steps_none old account stored after ok failed Asks edits =
+    none_made old old edits.steps edits.runs
+    (same_rest old.own edits.runs.own [] (sym edits.runs.own_is ∙ sym (append-nil old.own)))
+
+-- and changes nothing
 pub nothing_made : (old : ShareSeen) (account : Bytes) (stored after : Stored) (ok failed : Type 0)
     (Asks : Contents → Keys → Durable → Durable → Type 0) (edits : Edits old old account stored after ok failed Asks)
     (contents new : Contents) → Fold (Does old.era) contents edits.steps new → new ≡ contents
 nothing_made old account stored after ok failed Asks edits contents new fold =
-    let none : edits.runs.own ≡ [] = same_rest old.own edits.runs.own []
-    (sym edits.runs.own_is ∙ sym (append-nil old.own)) in
-    subst (λ (s : List Step). Fold (Does old.era) contents s new) (none_made old old edits.steps edits.runs none) fold
+    subst (λ (s : List Step). Fold (Does old.era) contents s new)
+    (steps_none old account stored after ok failed Asks edits) fold

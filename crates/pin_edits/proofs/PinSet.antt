@@ -1,5 +1,5 @@
 -- An edit that sets a PIN, whichever way it ended.
-use Rattle.std.proofs.Common.{◌≡◌, ℕ, List, [], ◌∷◌, Option, None, Some, Result, Err, IsOk, IsErr, OnOk, false, refl, sym, ap, ◌∙◌, subst, ⊎_elim, true≢false}
+use Rattle.std.proofs.Common.{◌≡◌, ℕ, List, [], ◌∷◌, Option, None, Some, Result, Err, IsOk, IsErr, OnOk, Bool, false, refl, sym, ap, ◌∙◌, subst, ⊎_elim, true≢false}
 use Rattle.std.specs.Prelude.{IsTrue, is_some}
 use Rattle.std.specs.FinMap.{insert}
 use Rattle.account_machine.specs.declared.user.Durable.{Durable}
@@ -7,40 +7,50 @@ use Rattle.factor_files.specs.declared.factor.FactorRecord.{FactorRecord}
 use Rattle.record_names.specs.Names.{is_account_name, is_factor_label, stash_name, factor_name}
 use Rattle.share_api.specs.Contents.{Bytes, Contents, Leaves}
 use Rattle.share_api.specs.Folds.{Fold}
-use Rattle.share_api.specs.Seen.{ShareSeen, Makes, Tries, step_of}
+use Rattle.share_api.specs.Seen.{ShareSeen, Makes, Tries, HasFailed, step_of}
 use Rattle.share_api.specs.Steps.{Does, with_leaf, leaf_of}
 use Rattle.share_api.specs.declared.leaf.NewLeaf.{NewLeaf}
 use Rattle.share_api.specs.declared.step.Op.TheVariants.{InsertLeaf}
+use Rattle.share_api.specs.declared.step.Reply.{Reply}
 use Rattle.share_api.specs.declared.step.Reply.TheVariants.{Labelled, Failed}
 use Rattle.share_api.specs.declared.step.Step.{Step}
 use Rattle.share_api.specs.declared.step.Write.{Write}
 use Rattle.share_api.specs.declared.step.Write.TheVariants.{Put, Remove, RemoveLeaf}
 use Rattle.share_api.proofs.StepLaws.{after_all}
+use Rattle.share_api.proofs.TryLaws.{failed_not_all}
 use Rattle.stash_format.specs.declared.contents.Contents.{Contents as Stash}
 use Rattle.stored_home.specs.Holds.{Keys}
 use Rattle.stored_home.specs.declared.fault.StoreFault.{StoreFault}
 use Rattle.stored_home.specs.declared.fault.StoreFault.TheVariants as faults
 use Rattle.stored_home.specs.declared.stored.Stored.{Stored}
+use Rattle.stored_home.proofs.MapLemmas.{not_None}
 use Rattle.stored_home.proofs.LeafLemmas.{leaf_undone}
+use Rattle.home_edits.specs.Edits.{Starts}
 use Rattle.home_edits.specs.Passwords.{TakesFactor}
 use Rattle.home_edits.proofs.Edited.{edits_none, ok_gives}
-use Rattle.pin_edits.specs.Pins.{pin_leaf, pin_row, IsOldPin, IsPinStash, SetsPin, PutsPin, EditsPin}
+use Rattle.pin_edits.specs.Pins.{pin_leaf, pin_row, IsOldPin, IsTakenLeaf, IsPinStash, SetsPin, PutsPin, EditsPin}
 use Rattle.pin_edits.specs.Writes.{IsRowWrite, IsStashWrite, rest_of}
 use Rattle.pin_edits.specs.declared.pin_stash.NewPin.{NewPin}
 use Rattle.pin_edits.proofs.Inserted.{SuitsLeaf, insert_failed, insert_leads, edits_inserted, inserted_steps}
-use Rattle.pin_edits.proofs.OneStep.{edits_one, nothing_made}
+use Rattle.pin_edits.proofs.NamedFaults.{failed_not_damaged}
+use Rattle.pin_edits.proofs.PinCounted.{pin_held}
+use Rattle.pin_edits.proofs.OneStep.{edits_one, steps_none, nothing_made}
 use Rattle.pin_edits.proofs.PinAdded.{add_suits, update_suits, back_suits}
 
 -- it made no step
 pub no_set : (old : ShareSeen) (account : Bytes) (stored : Stored) (result : Result Unit StoreFault)
     (Asks : Contents → Keys → Durable → Durable → Type 0) → (IsOk result → ⊥) → (result ≡ Err faults.Failed → ⊥)
+    → ((name : Bytes) → result ≡ Err (faults.Damaged name) → name ≡ stash_name account)
     → EditsPin old old account stored stored result Asks
-no_set old account stored result Asks none calm =
+no_set old account stored result Asks none calm stash =
     let edits = edits_none old account stored stored (IsOk result) (result ≡ Err faults.Failed) Asks none calm in
     record {
       edits = edits;
       refused = λ e not contents end clear fold. nothing_made old account stored stored (IsOk result)
           (result ≡ Err faults.Failed) Asks edits contents end fold;
+      quiet = λ e not has. subst HasFailed (steps_none old account stored stored (IsOk result)
+          (result ≡ Err faults.Failed) Asks edits) has;
+      damaged = λ name is contents end keys before next starts fold. stash name is;
     }
 
 -- the insert failed
@@ -55,6 +65,8 @@ failed_set old new account stored result Asks moment leaf found makes is =
           (step_of old moment (InsertLeaf leaf) Failed) found makes (λ f. refl) (λ o e. none o)
           (insert_failed old moment leaf account stored (IsOk result) Asks none);
       refused = λ e not. absurd (not is);
+      quiet = λ e not. absurd (not is);
+      damaged = λ name damaged. absurd (failed_not_damaged result (λ e. is) name damaged);
     }
 
 module _ (old mid new : ShareSeen) (account : Bytes) (stored later : Stored) (result : Result Unit StoreFault)
@@ -63,11 +75,30 @@ module _ (old mid new : ShareSeen) (account : Bytes) (stored later : Stored) (re
   abbrev Asks : Contents → Keys → Durable → Durable → Type 0
   Asks = SetsPin label pin main
 
+  abbrev insert_step : Step
+  insert_step = step_of old moment (InsertLeaf (pin_leaf pin)) (Labelled tree)
+
+  -- the insert was answered well
+  insert_done : insert_step.reply ≡ Failed → ⊥
+  insert_done e = let k : ◌≡◌ {A = Reply} (Labelled tree) Failed = e in cc k
+
+  -- in contents that hold the durable part, a new leaf is named by no loaded record
+  not_taken : (contents mid : Contents) (keys : Keys) (before next : Durable)
+      → Starts (is_some old.lost) account stored Asks contents keys before next
+      → Does old.era contents insert_step mid → IsTakenLeaf stored.factors tree → ⊥
+  not_taken contents mid keys before next starts does taken =
+      let begun = subst (λ (lost : Bool). Starts lost account stored Asks contents keys before next) found starts in
+      let h = pin_held account stored taken.0 taken.1.row taken.1.there tree taken.1.names contents keys before
+      begun.holds begun.kept in
+      let l = insert_leads old moment (pin_leaf pin) tree contents mid starts.kept.clear does in
+      not_None h.pin.leaf (sym h.pin.found ∙ l.0)
+
   -- the leaf was removed again
   back_set : (IsOk result → ⊥)
       → Tries mid new (RemoveLeaf tree ∷ []) (result ≡ Err faults.Failed → ⊥) (result ≡ Err faults.Failed)
+      → ((name : Bytes) → result ≡ Err (faults.Damaged name) → IsTakenLeaf stored.factors tree)
       → EditsPin old new account stored later result Asks
-  back_set none tried =
+  back_set none tried taken =
       let goes : IsOk result → result ≡ Err faults.Failed → ⊥ = λ o. absurd (none o) in
       let fails : result ≡ Err faults.Failed → result ≡ Err faults.Failed = λ f. f in
       let suits = back_suits old account stored later label pin main tree (IsOk result) none in
@@ -90,6 +121,14 @@ module _ (old mid new : ShareSeen) (account : Bytes) (stored later : Stored) (re
             (subst (λ c. Fold (Does old.era) c tried.steps end) l.1 f.2)
             ∙ ap (λ (m : Leaves). record contents { leaves = m })
             (leaf_undone contents.leaves tree (leaf_of (pin_leaf pin)) l.0);
+        quiet = λ e not has. ⊎_elim insert_done
+            (λ more. failed_not_all (RemoveLeaf tree ∷ []) tried.steps more (tried.all not))
+            (subst HasFailed steps has);
+        damaged = λ name is contents end keys before next starts fold.
+            let f : Fold (Does old.era) contents
+            (step_of old moment (InsertLeaf (pin_leaf pin)) (Labelled tree) ∷ tried.steps) end =
+            subst (λ (s : List Step). Fold (Does old.era) contents s end) steps fold in
+            absurd (not_taken contents f.0 keys before next starts f.1 (taken name is));
       }
 
   -- the changes were tried
@@ -101,6 +140,8 @@ module _ (old mid new : ShareSeen) (account : Bytes) (stored later : Stored) (re
     edits = edits_inserted old mid new account stored later (IsOk result) (result ≡ Err faults.Failed) (IsOk result)
         (result ≡ Err faults.Failed) Asks moment (pin_leaf pin) tree writes found makes tried (λ o. o) (λ f. f) suits;
     refused = λ e not. absurd (not (failed e));
+    quiet = λ e not. absurd (not (failed e));
+    damaged = λ name damaged. absurd (failed_not_damaged result failed name damaged);
   }
 
   module _ (stash : Stash) (iv : Bytes) (later_stash : Stash) (stash_put : Write)
@@ -146,5 +187,6 @@ module _ (old mid new : ShareSeen) (account : Bytes) (stored later : Stored) (re
     -- an edit that sets a PIN, once the leaf is inserted
     pub pin_set : (had : Option (Write × Write)) → IsOldPin account stored.factors label had
         → PutsPin mid new account row tree stash_put had result
+        → ((name : Bytes) → result ≡ Err (faults.Damaged name) → IsTakenLeaf stored.factors tree)
         → EditsPin old new account stored later result (SetsPin label pin main)
-    pin_set had o puts = ⊎_elim (λ w. named_set had o w.0 w.1 w.2 w.3) (λ w. back_set w.0 w.1) puts
+    pin_set had o puts taken = ⊎_elim (λ w. named_set had o w.0 w.1 w.2 w.3) (λ w. back_set w.0 w.1 taken) puts

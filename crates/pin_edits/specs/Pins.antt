@@ -1,18 +1,18 @@
 -- New PINs: their leaves, records and blocks, and what their edits ask.
-use Rattle.std.specs.Prelude.{◌≡◌, ◌⊎◌, ℕ, ◌≤◌, ◌<◌, ◌==◌, Bool, false, [], ◌∷◌, Option, None, Some, Result, Ok, Err, IsOk, IsErr, length, take}
+use Rattle.std.specs.Prelude.{◌≡◌, ◌⊎◌, ℕ, ◌≤◌, ◌<◌, ◌==◌, Bool, false, [], ◌∷◌, Option, None, Some, Result, Ok, Err, IsOk, IsErr, is_some, length, take}
 use Rattle.std.specs.FinMap.{get, insert, len}
 use Rattle.account_machine.specs.declared.factor.Kind.TheVariants.{Pin}
 use Rattle.account_machine.specs.declared.user.Durable.{Durable}
 use Rattle.account_machine.specs.Effect.{with_factor}
 use Rattle.factor_files.specs.declared.factor.FactorRecord.{FactorRecord}
-use Rattle.record_names.specs.Names.{factor_name}
+use Rattle.record_names.specs.Names.{stash_name, factor_name}
 use Rattle.scrypt_kdf.specs.Derive.{derive}
 use Rattle.sealed_text.specs.declared.sealed.Sealed.{Sealed}
 use Rattle.secret_stash.specs.Edits.{live_resets}
 use Rattle.secret_stash.specs.Keys.{new_block, opened_payload, opened_sealed, pin_wrap}
 use Rattle.share_api.specs.Contents.{Bytes, Contents}
 use Rattle.share_api.specs.Folds.{Fold}
-use Rattle.share_api.specs.Seen.{ShareSeen, Tries}
+use Rattle.share_api.specs.Seen.{ShareSeen, Tries, HasFailed}
 use Rattle.share_api.specs.Steps.{Does}
 use Rattle.share_api.specs.declared.step.Write.{Write}
 use Rattle.share_api.specs.declared.step.Write.TheVariants.{Remove, RemoveLeaf}
@@ -29,9 +29,9 @@ use Rattle.stored_home.specs.Holds.{Keys}
 use Rattle.stored_home.specs.Loaded.{Rows}
 use Rattle.stored_home.specs.declared.derived.Derived.{Derived}
 use Rattle.stored_home.specs.declared.fault.StoreFault.{StoreFault}
-use Rattle.stored_home.specs.declared.fault.StoreFault.TheVariants.{Failed}
+use Rattle.stored_home.specs.declared.fault.StoreFault.TheVariants.{Failed, Damaged}
 use Rattle.stored_home.specs.declared.stored.Stored.{Stored}
-use Rattle.home_edits.specs.Edits.{Edits}
+use Rattle.home_edits.specs.Edits.{Starts, Edits}
 use Rattle.pin_edits.specs.Writes.{IsRowWrite, rest_of}
 use Rattle.pin_edits.specs.declared.pin_stash.NewPin.{NewPin}
 
@@ -100,6 +100,10 @@ names_tree tree (Some leaf) = leaf == tree
 abbrev pub IsFreeLeaf : Rows → ℕ → Type 0
 IsFreeLeaf rows tree = (label : Bytes) → RowNames rows label tree → ⊥
 
+-- a loaded record names this leaf
+abbrev pub IsTakenLeaf : Rows → ℕ → Type 0
+IsTakenLeaf rows tree = (label : Bytes) × RowNames rows label tree
+
 -- The removals of what the label's factor had: nothing of a new label, and of a PIN its leaf and its record.
 abbrev pub IsOldPin : Bytes → Rows → Bytes → Option (Write × Write) → Type 0
 IsOldPin account rows label None = get rows label ≡ None
@@ -121,9 +125,14 @@ PutsPin old new account row tree put had result =
     × Tries old new (write ∷ put ∷ rest_of had) (IsOk result) (result ≡ Err Failed))
     ⊎ ((IsOk result → ⊥) × Tries old new (RemoveLeaf tree ∷ []) (result ≡ Err Failed → ⊥) (result ≡ Err Failed))
 
--- The edit of a PIN which changes nothing where it is refused.
+-- The edit of a PIN which changes nothing where it is refused, and of which no step has failed then. Of contents that hold
+-- the durable part before it, the damaged record is the stash.
 pub record EditsPin (old new : ShareSeen) (account : Bytes) (stored after : Stored) (result : Result Unit StoreFault)
     (Asks : Contents → Keys → Durable → Durable → Type 0) : Type 0 where
   pub edits : Edits old new account stored after (IsOk result) (result ≡ Err Failed) Asks
   pub refused : IsErr result → (result ≡ Err Failed → ⊥) → (contents end : Contents) → contents.doubt ≡ None
       → Fold (Does old.era) contents edits.steps end → end ≡ contents
+  pub quiet : IsErr result → (result ≡ Err Failed → ⊥) → HasFailed edits.steps → ⊥
+  pub damaged : (name : Bytes) → result ≡ Err (Damaged name) → (contents end : Contents) (keys : Keys)
+      (before next : Durable) → Starts (is_some old.lost) account stored Asks contents keys before next
+      → Fold (Does old.era) contents edits.steps end → name ≡ stash_name account

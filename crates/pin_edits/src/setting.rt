@@ -14,7 +14,7 @@ ghost use Rattle.stored_home.specs.Sizes.{IsShort};
 ghost use Rattle.home_edits.specs.Costs.{PutsCost};
 ghost use Rattle.home_edits.specs.Passwords.{TakesFactor};
 ghost use Rattle.pin_edits.specs.Faults.{IsStashFault, IsNamedFault, IsHeldFault};
-ghost use Rattle.pin_edits.specs.Pins.{pin_leaf, pin_row, names_tree, IsFreeLeaf, IsOldPin, HasRoom, IsPinStash, SetsPin, PutsPin, EditsPin};
+ghost use Rattle.pin_edits.specs.Pins.{pin_leaf, pin_row, names_tree, IsFreeLeaf, IsTakenLeaf, IsOldPin, HasRoom, IsPinStash, SetsPin, PutsPin, EditsPin};
 ghost use Rattle.pin_edits.specs.Writes.{IsOwnWrite, IsOwnRest, IsRowWrite, IsStashWrite, rest_of};
 
 use crate::pin_stash::{NewPin, leaf_of_pin, pin_stash};
@@ -117,6 +117,7 @@ fn named_row(
         ≡ insert rows.now label.now (pin_row label.now edition derived.now tree)) }
     ensures put { IfOk result (λ made. IsRowWrite account.now (pin_row label.now edition derived.now tree) made.1) }
     ensures only { IfErr result (IsNamedFault account.now tree) }
+    ensures taken { (name : Bytes) → IsErrOf result (StoreFault.Damaged name) → IsTakenLeaf rows.now tree }
 {
     if names_leaf(rows, tree) {
         return Err(StoreFault::Damaged(RecordName::leaf(account, tree)));
@@ -188,6 +189,8 @@ fn put_named<S: Share>(
     ensures puts { PutsPin (S.seen share.old) (S.seen share.new) account.now
         (pin_row label.now edition derived.now tree) tree put old result }
     ensures free { IsOk result → IsFreeLeaf stored.old.factors tree }
+    ensures taken { (name : Bytes) → IsErrOf result (StoreFault.Damaged name)
+        → IsTakenLeaf stored.old.factors tree }
     ensures ok { OnOk result (stored.new ≡ record stored.old {
       stash = Some stash;
       factors = insert stored.old.factors label.now (pin_row label.now edition derived.now tree);

@@ -1,8 +1,8 @@
-use Rattle.std.proofs.Common.{◌∷◌, IsOk, IsErr, refl, inl, inr}
+use Rattle.std.proofs.Common.{◌∷◌, IsOk, IsErr, Err, refl, ap, inl, inr}
 use Rattle.stored_home.specs.declared.fault.StoreFault.TheVariants as faults
 use Rattle.pin_edits.specs.Writes.{rest_of}
 use Rattle.pin_edits.proofs.ChangeTries.{tries_told}
-use Rattle.pin_edits.proofs.NamedFaults.{back_is_held}
+use Rattle.pin_edits.proofs.NamedFaults.{back_is_held, back_damaged}
 use Rattle.home_edits.proofs.Edited.{fault_is_err}
 use Rattle.pin_edits.proofs.setting.put_named.Goals as goal
 
@@ -29,3 +29,8 @@ returns-in-Ok-clause-free g c = λ _. c.in-Ok.ensures.free refl
 pub returns-in-Err-clause-only : goal.returns-in-Err-clause-only
 returns-in-Err-clause-only g c = back_is_held c.args.account.now c.args.tree c.in-Err.fault c.give_back.result
     c.in-Err.ensures.only c.give_back.ensures.only
+
+-- a loaded record names the leaf that is damaged
+pub returns-in-Err-clause-taken : goal.returns-in-Err-clause-taken
+returns-in-Err-clause-taken g c = λ name is.
+    c.in-Err.ensures.taken name (ap Err (back_damaged c.in-Err.fault c.give_back.result name c.give_back.ensures.only is))

@@ -19,7 +19,7 @@ use Rattle.pin_edits.proofs.LostTrees.{none_found}
 use Rattle.pin_edits.proofs.PinReset.{stash_not_failed}
 use Rattle.pin_edits.proofs.PinSet.{no_set, failed_set, pin_set}
 use Rattle.pin_edits.proofs.ChangeTries.{fault_same}
-use Rattle.pin_edits.proofs.NamedFaults.{stash_is_held}
+use Rattle.pin_edits.proofs.NamedFaults.{stash_is_held, stash_damaged}
 use Rattle.pin_edits.proofs.OwnWrites.{rest_own}
 use Rattle.pin_edits.proofs.PinCoherent.{coherent_by, set_coherent}
 use Rattle.pin_edits.proofs.PinCosts.{inserted_costs, set_costs}
@@ -34,6 +34,8 @@ returns-in_err-made-clause-edits g c =
     (SetsPin c.args.label.now c.args.pin.now c.args.main.now)
     (err_not_ok c.from_residual.result c.from_residual.ensures.0)
     (stash_not_failed c.args.account.now c.in_err-made.field-0.0 c.from_residual.result c.in_err-made.ensures.only
+    (p.1 ∙ ap Err p.2))
+    (stash_damaged c.args.account.now c.in_err-made.field-0.0 c.from_residual.result c.in_err-made.ensures.only
     (p.1 ∙ ap Err p.2))
 
 -- the insert failed
@@ -72,6 +74,7 @@ returns-clause-edits g c =
     (subst (λ (n : ℕ). PutsPin (g.S.Share.seen c.insert.new.share) (g.S.Share.seen c.put_named.new.share)
     c.args.account.now (pin_row c.args.label.now n c.args.pin.now.derived c.in_ok-tree.tree) c.in_ok-tree.tree
     c.in_ok-made.put c.args.old c.put_named.result) c.next-edition.ensures.value c.put_named.ensures.puts)
+    c.put_named.ensures.taken
 
 -- nothing was put
 pub returns-in_err-made-clause-cost : goal.returns-in_err-made-clause-cost
