@@ -28,7 +28,7 @@ use Rattle.platform_images.proofs.CallLemmas.{changes_one, label_small, owner_is
 use Rattle.platform_images.proofs.CallLemmas.{half_record, after_record}
 
 -- what a file that stays shows
-stays : (d i : Image) (q : Bytes) (o : Option Bytes) → o ≡ option_map (take 49182) (get d.files q)
+pub stays : (d i : Image) (q : Bytes) (o : Option Bytes) → o ≡ option_map (take 49182) (get d.files q)
     → get i.files q ≡ get d.files q → o ≡ option_map (take 49182) (get i.files q)
 stays d i q o shown same = shown ∙ ap (option_map (take 49182)) (sym same)
 

@@ -1,19 +1,23 @@
 //! The laws of images and platforms. Each function has an empty body: its contract is the law.
 
-ghost use Rattle.std.specs.Prelude.{◌≤◌, ◌<◌, ℕ, List, length, Some, None};
+ghost use Rattle.std.specs.Prelude.{◌≤◌, ◌<◌, ◌^◌, ℕ, List, length, Some, None};
 ghost use Rattle.board_model.specs.Disk.{Image};
 ghost use Rattle.staged_file.specs.Staged.{Kept, Replaced, KeptOr};
 ghost use Rattle.leaf_writes.specs.Writes.{StoredAlone, StoredWith, NoneOneOrBoth};
 ghost use Rattle.record_names.specs.Names.{leaf_name};
 ghost use Rattle.share_api.specs.Contents.{Bytes};
 ghost use Rattle.platform_core.specs.Records.{IsRecordOf, account_at};
+ghost use Rattle.pw_chip.specs.State.{booted};
+ghost use Rattle.pw_chip.specs.WordsBytes.{words_bytes};
 ghost use Rattle.pin_recovery.specs.Devices.{AreInStep};
 ghost use Rattle.pin_recovery.specs.LeafCalls.{LeafOp, label_of};
+ghost use Rattle.pin_recovery.specs.Recovery.{resync_of, booted_devices, recovered};
 ghost use Rattle.platform_model.specs.Views.{Platform};
 ghost use Rattle.platform_model.specs.Steps.{Op, Puts, Removes, Asks, done_by, IsAllowedOp};
 ghost use Rattle.platform_model.specs.Crashes.{halfway, IsImageOf};
 ghost use Rattle.platform_images.specs.Shown.{AreAccounts, Shows, IsStorable, ShowsImageOf, AwaitsCall};
-ghost use Rattle.platform_images.specs.Shown.{words_after, record_after};
+ghost use Rattle.platform_images.specs.Shown.{AreAlike, words_after, record_after};
+ghost use Rattle.platform_images.specs.Openings.{CarriesOut, with_devices};
 
 /// Where an image shows a platform in step, each image that the two writes of a leaf call of an account may leave of
 /// it shows the platform before the call, between its writes, or after it.
@@ -95,4 +99,46 @@ pub fn each_image_of_a_step_is_storable()
         → IsAllowedOp s number op now
         → IsImageOf s number op now q
         → IsStorable accounts q }
+{}
+
+/// An image shows no two storable platforms that differ in a device, or in what an account has.
+pub fn an_image_shows_one_platform()
+    ensures { (accounts : List Bytes) (image : Image) (one other : Platform)
+        → IsStorable accounts one
+        → IsStorable accounts other
+        → Shows accounts image one
+        → Shows accounts image other
+        → AreAlike one other }
+{}
+
+/// Where an image shows a platform, one in which the words of the counted boot are stored alone shows it with that
+/// boot.
+pub fn a_stored_boot_shows_opening()
+    ensures shown { (accounts : List Bytes) (old new : Image) (s : Platform) (moment : ℕ)
+        → AreAccounts accounts
+        → IsStorable accounts s
+        → Shows accounts old s
+        → moment < 2 ^ 40
+        → StoredAlone (words_bytes (booted s.devices.words moment)) old new
+        → Shows accounts new (with_devices s (booted_devices s.devices moment)) }
+    ensures storable { (accounts : List Bytes) (s : Platform) (moment : ℕ)
+        → IsStorable accounts s
+        → moment < 2 ^ 40
+        → IsStorable accounts (with_devices s (booted_devices s.devices moment)) }
+{}
+
+/// Where an image shows a platform, one in which the answer of the resync is carried out by its one write shows it
+/// recovered.
+pub fn a_replay_shows_recovery()
+    ensures shown { (accounts : List Bytes) (old new : Image) (s : Platform) (now : ℕ)
+        → AreAccounts accounts
+        → IsStorable accounts s
+        → Shows accounts old s
+        → now < 2 ^ 40
+        → CarriesOut accounts s now (resync_of s.devices) old new
+        → Shows accounts new (with_devices s (recovered s.devices now)) }
+    ensures storable { (accounts : List Bytes) (s : Platform) (now : ℕ)
+        → IsStorable accounts s
+        → now < 2 ^ 40
+        → IsStorable accounts (with_devices s (recovered s.devices now)) }
 {}

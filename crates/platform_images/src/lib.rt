@@ -4,6 +4,7 @@
 mod laws;
 
 pub use laws::{
-    a_put_shows_the_step, a_removal_shows_the_step, alike_images_show_the_same,
+    a_put_shows_the_step, a_removal_shows_the_step, a_replay_shows_recovery,
+    a_stored_boot_shows_opening, alike_images_show_the_same, an_image_shows_one_platform,
     each_image_of_a_step_is_storable, two_writes_show_the_step,
 };
