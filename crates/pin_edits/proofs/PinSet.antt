@@ -1,5 +1,5 @@
 -- An edit that sets a PIN, whichever way it ended.
-use Rattle.std.proofs.Common.{◌≡◌, ℕ, List, [], ◌∷◌, Option, None, Some, Result, Err, IsOk, IsErr, OnOk, Bool, false, refl, sym, ap, ◌∙◌, subst, ⊎_elim, true≢false}
+use Rattle.std.proofs.Common.{◌≡◌, ℕ, List, [], ◌∷◌, Option, None, Some, Result, Err, IsOk, IsErr, OnOk, Bool, false, refl, sym, ap, ◌∙◌, subst, inr, ⊎_elim, true≢false}
 use Rattle.std.specs.Prelude.{IsTrue, is_some}
 use Rattle.std.specs.FinMap.{insert}
 use Rattle.account_machine.specs.declared.user.Durable.{Durable}
@@ -16,6 +16,7 @@ use Rattle.share_api.specs.declared.step.Reply.TheVariants.{Labelled, Failed}
 use Rattle.share_api.specs.declared.step.Step.{Step}
 use Rattle.share_api.specs.declared.step.Write.{Write}
 use Rattle.share_api.specs.declared.step.Write.TheVariants.{Put, Remove, RemoveLeaf}
+use Rattle.share_api.proofs.RunLaws.{runs_one, runs_then}
 use Rattle.share_api.proofs.StepLaws.{after_all}
 use Rattle.share_api.proofs.TryLaws.{failed_not_all}
 use Rattle.stash_format.specs.declared.contents.Contents.{Contents as Stash}
@@ -28,7 +29,7 @@ use Rattle.stored_home.proofs.LeafLemmas.{leaf_undone}
 use Rattle.home_edits.specs.Edits.{Starts}
 use Rattle.home_edits.specs.Passwords.{TakesFactor}
 use Rattle.home_edits.proofs.Edited.{edits_none, ok_gives}
-use Rattle.pin_edits.specs.Pins.{pin_leaf, pin_row, IsOldPin, IsTakenLeaf, IsPinStash, SetsPin, PutsPin, EditsPin}
+use Rattle.pin_edits.specs.Pins.{pin_leaf, pin_row, IsOldPin, IsTakenLeaf, IsPinStash, SetsPin, PutsPin, EditsPin, ComesToNothing}
 use Rattle.pin_edits.specs.Writes.{IsRowWrite, IsStashWrite, rest_of}
 use Rattle.pin_edits.specs.declared.pin_stash.NewPin.{NewPin}
 use Rattle.pin_edits.proofs.Inserted.{SuitsLeaf, insert_failed, insert_leads, edits_inserted, inserted_steps}
@@ -190,3 +191,26 @@ module _ (old mid new : ShareSeen) (account : Bytes) (stored later : Stored) (re
         → ((name : Bytes) → result ≡ Err (faults.Damaged name) → IsTakenLeaf stored.factors tree)
         → EditsPin old new account stored later result (SetsPin label pin main)
     pin_set had o puts taken = ⊎_elim (λ w. named_set had o w.0 w.1 w.2 w.3) (λ w. back_set w.0 w.1 taken) puts
+
+-- want of memory leaves no step, or an insert that was taken back
+pub pin_calm : (old mid new : ShareSeen) (account : Bytes) (new_row : FactorRecord) (moment tree : ℕ) (leaf : NewLeaf)
+    (stash_put : Write) (had : Option (Write × Write)) (result : Result Unit StoreFault)
+    → Makes old mid (step_of old moment (InsertLeaf leaf) (Labelled tree))
+    → PutsPin mid new account new_row tree stash_put had result → result ≡ Err faults.NoMemory → ComesToNothing old new
+pin_calm old mid new account new_row moment tree leaf stash_put had result makes puts is = ⊎_elim
+    (λ w. absurd (not_failed (w.2 (subst IsErr (sym is) refl))))
+    (λ w. inr (
+      leaf,
+      tree,
+      moment,
+      w.1.steps,
+      runs_then old mid new (step_of old moment (InsertLeaf leaf) (Labelled tree) ∷ []) w.1.steps
+          (runs_one old mid (step_of old moment (InsertLeaf leaf) (Labelled tree)) makes) w.1.runs,
+      w.1.all not_failed,
+    ))
+    puts
+  where
+    not_failed : result ≡ Err faults.Failed → ⊥
+    not_failed failed =
+        let both : ◌≡◌ {A = Result Unit StoreFault} (Err faults.NoMemory) (Err faults.Failed) = sym is ∙ failed in
+        cc both

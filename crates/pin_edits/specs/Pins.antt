@@ -1,5 +1,5 @@
 -- New PINs: their leaves, records and blocks, and what their edits ask.
-use Rattle.std.specs.Prelude.{◌≡◌, ◌⊎◌, ℕ, ◌≤◌, ◌<◌, ◌==◌, Bool, false, [], ◌∷◌, Option, None, Some, Result, Ok, Err, IsOk, IsErr, is_some, length, take}
+use Rattle.std.specs.Prelude.{◌≡◌, List, ◌⊎◌, ℕ, ◌≤◌, ◌<◌, ◌==◌, Bool, false, [], ◌∷◌, Option, None, Some, Result, Ok, Err, IsOk, IsErr, is_some, length, take}
 use Rattle.std.specs.FinMap.{get, insert, len}
 use Rattle.account_machine.specs.declared.factor.Kind.TheVariants.{Pin}
 use Rattle.account_machine.specs.declared.user.Durable.{Durable}
@@ -12,8 +12,11 @@ use Rattle.secret_stash.specs.Edits.{live_resets}
 use Rattle.secret_stash.specs.Keys.{new_block, opened_payload, opened_sealed, pin_wrap}
 use Rattle.share_api.specs.Contents.{Bytes, Contents}
 use Rattle.share_api.specs.Folds.{Fold}
-use Rattle.share_api.specs.Seen.{ShareSeen, Tries, HasFailed}
-use Rattle.share_api.specs.Steps.{Does}
+use Rattle.share_api.specs.Seen.{ShareSeen, Runs, Tries, HasFailed, step_of}
+use Rattle.share_api.specs.Steps.{Does, AllDone}
+use Rattle.share_api.specs.declared.step.Op.TheVariants.{InsertLeaf}
+use Rattle.share_api.specs.declared.step.Reply.TheVariants.{Labelled}
+use Rattle.share_api.specs.declared.step.Step.{Step}
 use Rattle.share_api.specs.declared.step.Write.{Write}
 use Rattle.share_api.specs.declared.step.Write.TheVariants.{Remove, RemoveLeaf}
 use Rattle.share_api.specs.declared.leaf.NewLeaf.{NewLeaf}
@@ -124,6 +127,14 @@ PutsPin old new account row tree put had result =
     ((write : Write) × IsRowWrite account row write × (IsErr result → result ≡ Err Failed)
     × Tries old new (write ∷ put ∷ rest_of had) (IsOk result) (result ≡ Err Failed))
     ⊎ ((IsOk result → ⊥) × Tries old new (RemoveLeaf tree ∷ []) (result ≡ Err Failed → ⊥) (result ≡ Err Failed))
+
+-- No step was made, or a leaf was inserted and removed again.
+abbrev pub ComesToNothing : ShareSeen → ShareSeen → Type 0
+ComesToNothing old new =
+    (new ≡ old)
+    ⊎ ((leaf : NewLeaf) × (tree : ℕ) × (moment : ℕ) × (steps : List Step)
+    × Runs old new (step_of old moment (InsertLeaf leaf) (Labelled tree) ∷ steps)
+    × AllDone (RemoveLeaf tree ∷ []) steps)
 
 -- The edit of a PIN which changes nothing where it is refused, and of which no step has failed then. Of contents that hold
 -- the durable part before it, the damaged record is the stash.

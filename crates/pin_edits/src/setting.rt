@@ -14,7 +14,7 @@ ghost use Rattle.stored_home.specs.Sizes.{IsShort};
 ghost use Rattle.home_edits.specs.Costs.{PutsCost};
 ghost use Rattle.home_edits.specs.Passwords.{TakesFactor};
 ghost use Rattle.pin_edits.specs.Faults.{IsStashFault, IsNamedFault, IsHeldFault};
-ghost use Rattle.pin_edits.specs.Pins.{pin_leaf, pin_row, names_tree, IsFreeLeaf, IsTakenLeaf, IsOldPin, HasRoom, IsPinStash, SetsPin, PutsPin, EditsPin};
+ghost use Rattle.pin_edits.specs.Pins.{pin_leaf, pin_row, names_tree, IsFreeLeaf, IsTakenLeaf, IsOldPin, HasRoom, IsPinStash, SetsPin, PutsPin, EditsPin, ComesToNothing};
 ghost use Rattle.pin_edits.specs.Writes.{IsOwnWrite, IsOwnRest, IsRowWrite, IsStashWrite, rest_of};
 
 use crate::pin_stash::{NewPin, leaf_of_pin, pin_stash};
@@ -271,6 +271,7 @@ pub(crate) fn set_held<S: Share>(
     ensures coherent { HasRoom stored.old.factors old → IsCoherent account.now stored.old
         → IsCoherent account.now stored.new }
     ensures only { IfErr result (IsHeldFault account.now) }
+    ensures calm { IsErrOf result StoreFault.NoMemory → ComesToNothing (S.seen share.old) (S.seen share.new) }
     ensures goes { S.goes share.old share.new }
 {
     let Some(stash) = &stored.stash else {

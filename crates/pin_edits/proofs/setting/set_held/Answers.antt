@@ -1,4 +1,4 @@
-use Rattle.std.proofs.Common.{◌≡◌, ℕ, Option, Result, Err, Some, OnOk, refl, sym, ap, ◌∙◌, subst}
+use Rattle.std.proofs.Common.{◌≡◌, ℕ, Option, Result, Err, Some, OnOk, refl, sym, ap, ◌∙◌, subst, inl}
 use Rattle.std.proofs.lemmas.Result.{err_from_is_err_and}
 use Rattle.std.specs.Prelude.{IfErr}
 use Rattle.std.specs.FinMap.{insert}
@@ -8,6 +8,7 @@ use Rattle.share_api.specs.declared.leaf.NewLeaf.{NewLeaf}
 use Rattle.share_api.specs.declared.step.Op.TheVariants.{InsertLeaf}
 use Rattle.share_api.specs.declared.step.Reply.TheVariants.{Labelled, Failed}
 use Rattle.stored_home.specs.declared.fault.StoreFault.{StoreFault}
+use Rattle.stored_home.specs.declared.fault.StoreFault.TheVariants as faults
 use Rattle.home_edits.specs.Passwords.{TakesFactor}
 use Rattle.home_edits.proofs.CostLemmas.{costs_none}
 use Rattle.home_edits.proofs.ShortLemmas.{short_stays}
@@ -17,7 +18,7 @@ use Rattle.pin_edits.specs.Pins.{pin_leaf, pin_row, SetsPin, PutsPin}
 use Rattle.pin_edits.specs.Writes.{IsOwnRest}
 use Rattle.pin_edits.proofs.LostTrees.{none_found}
 use Rattle.pin_edits.proofs.PinReset.{stash_not_failed}
-use Rattle.pin_edits.proofs.PinSet.{no_set, failed_set, pin_set}
+use Rattle.pin_edits.proofs.PinSet.{no_set, failed_set, pin_set, pin_calm}
 use Rattle.pin_edits.proofs.ChangeTries.{fault_same}
 use Rattle.pin_edits.proofs.NamedFaults.{stash_is_held, stash_damaged}
 use Rattle.pin_edits.proofs.OwnWrites.{rest_own}
@@ -134,3 +135,23 @@ returns-in_err-made-clause-only g c =
     let p = err_from_is_err_and c.from_residual.result c.from_residual.ensures.1 in
     subst (λ (r : Result Unit StoreFault). IfErr r (IsHeldFault c.args.account.now)) (sym (p.1 ∙ ap Err p.2))
     (stash_is_held c.args.account.now c.in_err-made.field-0.0 c.in_err-made.ensures.only)
+
+-- want of memory comes before the first step, or the leaf is removed again
+pub returns-in_err-made-clause-calm : goal.returns-in_err-made-clause-calm
+returns-in_err-made-clause-calm g c = λ _. inl refl
+
+pub returns-in_err-tree-clause-calm : goal.returns-in_err-tree-clause-calm
+returns-in_err-tree-clause-calm g c = λ memory.
+    let result = c.from_residual-in_err-tree.result in
+    let p = err_from_is_err_and result c.from_residual-in_err-tree.ensures.1 in
+    let both : ◌≡◌ {A = Result Unit StoreFault} (Err faults.NoMemory) (Err faults.Failed) =
+    sym memory ∙ p.1 ∙ ap Err (p.2 ∙ fault_same c.in_err-tree.field-0.0 (c.in_err-tree.ensures.only refl)) in
+    absurd (cc both)
+
+pub returns-clause-calm : goal.returns-clause-calm
+returns-clause-calm g c = λ memory.
+    pin_calm (g.S.Share.seen c.args.share.now) (g.S.Share.seen c.insert.new.share)
+    (g.S.Share.seen c.put_named.new.share) c.args.account.now
+    (pin_row c.args.label.now c.next-edition.result c.args.pin.now.derived c.in_ok-tree.tree) c.args.moment
+    c.in_ok-tree.tree c.leaf_of_pin.result c.in_ok-made.put c.args.old c.put_named.result c.in_ok-tree.ensures.made
+    c.put_named.ensures.puts memory
