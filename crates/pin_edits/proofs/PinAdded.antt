@@ -264,7 +264,8 @@ module _ (account : Bytes) (plain : IsTrue (is_account_name account)) (stored : 
       -- the label's record names the new leaf
       own_new : NamesLeaf both.records account (insert before.factors label factor) label old_tree → ⊥
       own_new n =
-          let its : factor ≡ n.factor = from_some factor n.factor (sym (put_at before.factors label factor) ∙ n.there) in
+          let its : factor ≡ n.factor = from_some factor n.factor
+          (sym (put_at before.factors label factor) ∙ n.there) in
           let reads : record_at both.records account label n.factor.edition ≡ Some row =
           ap (λ (f : Factor). record_at both.records account label f.edition) (sym its)
           ∙ ap (λ (e : ℕ). record_at both.records account label e) (sym held.next)
@@ -317,7 +318,8 @@ module _ (account : Bytes) (plain : IsTrue (is_account_name account)) (stored : 
       -- and loaded without its old leaf and its old record
       updated_kept : IsKept false last account later_with
       updated_kept =
-          let records = with_both account plain label stash.next labelled within contents.records row_bytes stash_bytes in
+          let records = with_both account plain label stash.next labelled within contents.records row_bytes
+          stash_bytes in
           set_kept false account contents last stored stash label starts.kept is held.sound
           (others_then account label contents.records records last.records
           (both_others account plain label stash.next labelled within contents.records row_bytes stash_bytes)

@@ -73,8 +73,8 @@ module _ {V : Type 0} (p : V → Bool) where
           → many (of (by_order o (row ∷ rows) rows (row ∷ without name rows))) + 1 ≤ many (of (row ∷ rows))
       step rest Less is found gone = absurd (not_None x (sym found ∙ gone))
       step rest Equal is found gone =
-          let same : row.1 ≡ x = from_some row.1 x (sym (ap (λ o. cond (is_eq o) (Some row.1) (find order name rows)) is)
-          ∙ found) in
+          let same : row.1 ≡ x = from_some row.1 x
+          (sym (ap (λ o. cond (is_eq o) (Some row.1) (find order name rows)) is) ∙ found) in
           subst (λ b. many (of rows) + 1 ≤ cond b (1 + many (of rows)) (many (of rows))) (sym (ap p same ∙ pass))
           (omega arith)
       step rest Greater is found gone = less_by_one (p row.1) (many (of (without name rows))) (many (of rows))

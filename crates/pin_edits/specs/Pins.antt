@@ -136,8 +136,8 @@ ComesToNothing old new =
     × Runs old new (step_of old moment (InsertLeaf leaf) (Labelled tree) ∷ steps)
     × AllDone (RemoveLeaf tree ∷ []) steps)
 
--- The edit of a PIN which changes nothing where it is refused, and of which no step has failed then. Of contents that hold
--- the durable part before it, the damaged record is the stash.
+-- The edit of a PIN which changes nothing where it is refused, and of which no step has failed then. Of contents that
+-- hold the durable part before it, the damaged record is the stash.
 pub record EditsPin (old new : ShareSeen) (account : Bytes) (stored after : Stored) (result : Result Unit StoreFault)
     (Asks : Contents → Keys → Durable → Durable → Type 0) : Type 0 where
   pub edits : Edits old new account stored after (IsOk result) (result ≡ Err Failed) Asks

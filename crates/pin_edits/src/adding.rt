@@ -20,14 +20,14 @@ use share_api::Share;
 use std::alloc::Global;
 use stored_home::{StoreFault, Stored};
 
-/// Adds a PIN to a home that has factors, with its leaf, its record and its block. The steps are the insert of the leaf,
-/// the put of the record and the put of the stash, which is the commit point.
+/// Adds a PIN to a home that has factors, with its leaf, its record and its block. The steps are the insert of the
+/// leaf, the put of the record and the put of the stash, which is the commit point.
 ///
 /// `main` is the home's main key, and `pin` has what is derived of the new secret. No two texts may be sealed under one
 /// key and IV. `moment` is in seconds. The faults are `TreeLost` exactly where the tree is lost, and `Damaged` with the
-/// stash's name where its payload doesn't open or has 16 other reset secrets, both with no step made, `Damaged` with the
-/// name of the new leaf where a loaded record names it already, `Failed`, and `NoMemory`: where the record couldn't be
-/// named once the leaf was inserted, the leaf was removed again. After a fault `stored` is as it was.
+/// stash's name where its payload doesn't open or has 16 other reset secrets, both with no step made, `Damaged` with
+/// the name of the new leaf where a loaded record names it already, `Failed`, and `NoMemory`: where the record couldn't
+/// be named once the leaf was inserted, the leaf was removed again. After a fault `stored` is as it was.
 pub fn add_pin<S: Share>(
     alloc: Global,
     stored: &mut Stored,
