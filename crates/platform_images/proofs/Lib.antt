@@ -5,3 +5,4 @@ pub mod StorableLemmas
 pub mod OneLemmas
 pub mod AnswerLemmas
 pub mod RecoveryLemmas
+pub mod FileLemmas

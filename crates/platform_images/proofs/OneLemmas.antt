@@ -28,13 +28,14 @@ same_contents keys x y first second e =
     cc p
 
 -- a record that an account has is that of a leaf at its label
-record IsRecorded (keys : ChipKeys) (mine : Bool) (o : Option Contents) (bytes : Bytes) : Type 0 where
-  owned : mine ≡ true
-  leaf : Contents
-  there : o ≡ Some leaf
-  spelled : leaf_bytes keys leaf ≡ bytes
+pub record IsRecorded (keys : ChipKeys) (mine : Bool) (o : Option Contents) (bytes : Bytes) : Type 0 where
+  pub owned : mine ≡ true
+  pub leaf : Contents
+  pub there : o ≡ Some leaf
+  pub spelled : leaf_bytes keys leaf ≡ bytes
 
-recorded : (keys : ChipKeys) (mine : Bool) (o : Option Contents) (bytes : Bytes)
+-- each such record is
+pub recorded : (keys : ChipKeys) (mine : Bool) (o : Option Contents) (bytes : Bytes)
     → cond mine (record_at keys o) None ≡ Some bytes → IsRecorded keys mine o bytes
 recorded keys true (Some x) bytes e = record { owned = refl; leaf = x; there = refl; spelled = cc e }
 recorded keys true None bytes e = cc e
@@ -95,7 +96,7 @@ each_way (Some x) p f g = sym (f x refl)
 each_way None (Some y) f g = g y refl
 
 -- a label without a leaf shows nothing
-nothing : (b c : Bool) → ◌≡◌ {A = Option PlainLeaf} (cond b None None) (cond c None None)
+pub nothing : (b c : Bool) → ◌≡◌ {A = Option PlainLeaf} (cond b None None) (cond c None None)
 nothing true true = refl
 nothing true false = refl
 nothing false true = refl

@@ -30,7 +30,7 @@ use Rattle.pin_recovery.specs.Recovery.{resync_of, undone, words_by, leaves_by, 
 use Rattle.pin_recovery.proofs.LeafLemmas.{leaves_with, held_written}
 use Rattle.platform_model.specs.Views.{Platform}
 use Rattle.platform_images.specs.Shown.{AreAccounts, leaf_record, Shows, IsStorable}
-use Rattle.platform_images.specs.Openings.{with_devices, owned_name, CarriesOut}
+use Rattle.platform_images.specs.Openings.{with_devices, owned_name, CarriesOut, OpensPartly, ShowsOpening}
 use Rattle.platform_images.proofs.NameLemmas.{plain_leaf, one_leaf, not_leaf}
 use Rattle.platform_images.proofs.ShownLemmas.{stays, shown_kept, shown_words}
 use Rattle.platform_images.proofs.AnswerLemmas.{by_answer}
@@ -225,3 +225,26 @@ module _ (accounts : List Bytes) (s : Platform) (now : ℕ) (fits : IsStorable a
         (λ some r. shown_leaf accounts are d i s h newest_label None (fits.owners newest_label some) small r)
         (λ x some is own r. subst (Shows accounts i) (held x is)
         (shown_leaf accounts are d i s h newest_label (Some x) (fits.owners newest_label some) small r))
+
+-- whatever the writes of opening leave
+pub opening_shown : (accounts : List Bytes) (d i : Image) (s : Platform) (moment : ℕ) → AreAccounts accounts
+    → IsStorable accounts s → Shows accounts d s → moment < 2 ^ 40 → OpensPartly accounts s moment d i
+    → ShowsOpening accounts i s moment
+opening_shown accounts d i s moment are fits h early (inl k) =
+    record { left = s.devices; is = inl refl; shown = shown_kept accounts are d i s h k; storable = fits }
+opening_shown accounts d i s moment are fits h early (inr (inl k)) = record {
+  left = booted_devices s.devices moment;
+  is = inr (inl refl);
+  shown = boot_shown accounts d i s moment are fits h early k;
+  storable = boot_storable accounts s moment fits early;
+}
+opening_shown accounts d i s moment are fits h early (inr (inr k)) =
+    let b = with_devices s (booted_devices s.devices moment) in
+    let holds = boot_storable accounts s moment fits early in
+    record {
+      left = recovered (booted_devices s.devices moment) moment;
+      is = inr (inr refl);
+      shown = recovery_shown accounts b moment holds early are k.0 i
+          (boot_shown accounts d k.0 s moment are fits h early k.1) k.2;
+      storable = recovery_storable accounts b moment holds early;
+    }

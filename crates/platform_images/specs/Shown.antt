@@ -2,6 +2,7 @@
 use Rattle.std.specs.Prelude.{◌≡◌, ◌==◌, if◌then◌else◌, ℕ, ◌<◌, List, length, take, IsTrue, Ok}
 use Rattle.std.specs.Prelude.{Option, None, Some, IsSome, option_map}
 use Rattle.std.specs.FinMap.{get}
+use Rattle.pw_chip.specs.State.{ChipState}
 use Rattle.pw_chip.specs.WordsBytes.{IsWords, words_at, words_bytes}
 use Rattle.pin_recovery.specs.Devices.{AreLeaves, AreInStep, record_at}
 use Rattle.pin_recovery.specs.LeafCalls.{LeafOp, label_of, stepped}
@@ -10,7 +11,8 @@ use Rattle.platform_model.specs.Steps.{Op, Asks, IsAllowedOp}
 use Rattle.platform_model.specs.Crashes.{IsImageOf}
 use Rattle.board_model.specs.Disk.{Image}
 use Rattle.record_names.specs.Names.{is_account_name, leaf_name}
-use Rattle.share_api.specs.Contents.{Bytes}
+use Rattle.share_api.specs.Contents.{Bytes, Contents}
+use Rattle.image_path.specs.Showing.{ByAccount}
 use Rattle.platform_core.specs.Records.{IsRecordOf, account_at, AreDistinct}
 
 -- each account stands once, and its name is an account's
@@ -72,3 +74,13 @@ record_after s op now =
 pub record AreAlike (one other : Platform) : Type 0 where
   pub devices : one.devices ≡ other.devices
   pub views : (number : ℕ) → view_of one number ≡ view_of other number
+
+-- ---- a platform without leaves
+
+-- the platform that has these words, no leaf, and each account's records among these contents
+abbrev pub without_leaves : ChipState → ByAccount Contents → Platform
+without_leaves w parts = record {
+  devices = record { words = w; leaves = λ label. None };
+  owners = λ label. 0;
+  records = λ number. (parts number).records;
+}

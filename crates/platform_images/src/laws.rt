@@ -1,23 +1,27 @@
 //! The laws of images and platforms. Each function has an empty body: its contract is the law.
 
-ghost use Rattle.std.specs.Prelude.{◌≤◌, ◌<◌, ◌^◌, ℕ, List, length, Some, None};
+ghost use Rattle.std.specs.Prelude.{◌≡◌, ◌≤◌, ◌<◌, ◌^◌, ℕ, List, length, Some, None, Ok};
+ghost use Rattle.std.specs.FinMap.{get};
 ghost use Rattle.board_model.specs.Disk.{Image};
 ghost use Rattle.staged_file.specs.Staged.{Kept, Replaced, KeptOr};
 ghost use Rattle.leaf_writes.specs.Writes.{StoredAlone, StoredWith, NoneOneOrBoth};
 ghost use Rattle.record_names.specs.Names.{leaf_name};
-ghost use Rattle.share_api.specs.Contents.{Bytes};
+ghost use Rattle.share_api.specs.Contents.{Bytes, Contents};
+ghost use Rattle.image_path.specs.Showing.{ByAccount};
+ghost use Rattle.platform_core.specs.Records as records;
 ghost use Rattle.platform_core.specs.Records.{IsRecordOf, account_at};
-ghost use Rattle.pw_chip.specs.State.{booted};
-ghost use Rattle.pw_chip.specs.WordsBytes.{words_bytes};
-ghost use Rattle.pin_recovery.specs.Devices.{AreInStep};
+ghost use Rattle.pw_path.specs.Tree.{no_hash};
+ghost use Rattle.pw_chip.specs.State.{ChipState, booted};
+ghost use Rattle.pw_chip.specs.WordsBytes.{IsWords, words_at, words_bytes};
+ghost use Rattle.pin_recovery.specs.Devices.{AreInStep, tree_of};
 ghost use Rattle.pin_recovery.specs.LeafCalls.{LeafOp, label_of};
 ghost use Rattle.pin_recovery.specs.Recovery.{resync_of, booted_devices, recovered};
 ghost use Rattle.platform_model.specs.Views.{Platform};
 ghost use Rattle.platform_model.specs.Steps.{Op, Puts, Removes, Asks, done_by, IsAllowedOp};
 ghost use Rattle.platform_model.specs.Crashes.{halfway, IsImageOf};
 ghost use Rattle.platform_images.specs.Shown.{AreAccounts, Shows, IsStorable, ShowsImageOf, AwaitsCall};
-ghost use Rattle.platform_images.specs.Shown.{AreAlike, words_after, record_after};
-ghost use Rattle.platform_images.specs.Openings.{CarriesOut, with_devices};
+ghost use Rattle.platform_images.specs.Shown.{AreAlike, words_after, record_after, without_leaves};
+ghost use Rattle.platform_images.specs.Openings.{CarriesOut, OpensPartly, ShowsOpening, IsLeafOf, with_devices};
 
 /// Where an image shows a platform in step, each image that the two writes of a leaf call of an account may leave of
 /// it shows the platform before the call, between its writes, or after it.
@@ -141,4 +145,49 @@ pub fn a_replay_shows_recovery()
         → IsStorable accounts s
         → now < 2 ^ 40
         → IsStorable accounts (with_devices s (recovered s.devices now)) }
+{}
+
+/// Where an image shows a platform, each image that the writes of opening may leave of it shows the platform with what
+/// a crash in opening may leave of its devices.
+pub fn each_image_of_opening_is_shown()
+    ensures { (accounts : List Bytes) (old new : Image) (s : Platform) (moment : ℕ)
+        → AreAccounts accounts
+        → IsStorable accounts s
+        → Shows accounts old s
+        → moment < 2 ^ 40
+        → OpensPartly accounts s moment old new
+        → ShowsOpening accounts new s moment }
+{}
+
+/// The files under leaves' names tell the leaves of the platform that is shown, and the values of its tree.
+pub fn files_tell_the_leaves()
+    // A file that is there is the record of that account's leaf.
+    ensures there { (accounts : List Bytes) (image : Image) (s : Platform) (number label : ℕ) (bytes : Bytes)
+        → IsStorable accounts s
+        → Shows accounts image s
+        → number < length accounts
+        → label < 16384
+        → get image.files (leaf_name (account_at accounts number) label) ≡ Some bytes
+        → IsLeafOf s number label bytes }
+    // Where no account has one, the label isn't used.
+    ensures absent { (accounts : List Bytes) (image : Image) (s : Platform) (label : ℕ)
+        → IsStorable accounts s
+        → Shows accounts image s
+        → ((number : ℕ) → number < length accounts → label < 16384
+        → get image.files (leaf_name (account_at accounts number) label) ≡ None)
+        → (s.devices.leaves label ≡ None) × (tree_of s.devices label ≡ no_hash) }
+{}
+
+/// An image without a leaf's record shows the platform that has its words, no leaf, and the records that
+/// `platform_core` says it shows.
+pub fn an_image_without_leaves_shows_its_records()
+    ensures shown { (accounts : List Bytes) (image : Image) (w : ChipState) (parts : ByAccount Contents)
+        → words_at image.words ≡ Ok (Some w)
+        → records.Shows accounts image parts
+        → ((number label : ℕ) → number < length accounts → label < 16384
+        → get image.files (leaf_name (account_at accounts number) label) ≡ None)
+        → Shows accounts image (without_leaves w parts) }
+    ensures storable { (accounts : List Bytes) (w : ChipState) (parts : ByAccount Contents)
+        → IsWords w
+        → IsStorable accounts (without_leaves w parts) }
 {}
