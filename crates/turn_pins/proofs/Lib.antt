@@ -1,0 +1,2 @@
+pub mod PinTurns
+pub mod Removing
