@@ -1,5 +1,5 @@
 -- Turns with an edit of a PIN, whichever way it ended.
-use Rattle.std.proofs.Common.{◌≡◌, ◌≢◌, ℕ, List, Bool, true, Option, None, Some, Result, Ok, Err, IsOk, OnErr, refl, sym, ap, ◌∙◌, subst, inl, inr, is_some, true≢false}
+use Rattle.std.proofs.Common.{◌≡◌, true, Option, None, Some, Result, Ok, Err, IsOk, OnErr, refl, sym, ap, subst, is_some}
 use Rattle.std.specs.Prelude.{IsErrOf, IfErr, IsSome}
 use Rattle.account_machine.specs.declared.answer.Answer.{Answer}
 use Rattle.account_machine.specs.declared.answer.Answer.TheVariants as answers
@@ -8,11 +8,8 @@ use Rattle.account_machine.specs.declared.user.Durable.{Durable}
 use Rattle.account_machine.specs.declared.user.User.{User}
 use Rattle.account_machine.specs.Row.{turn_names_tree}
 use Rattle.account_machine.specs.Step.{MayFail, loses}
-use Rattle.account_machine.specs.User.{outline_of}
-use Rattle.auth_session.specs.Table.{Table}
 use Rattle.home_edits.specs.Edits.{Edits}
 use Rattle.pin_edits.specs.Faults.{IsPinFault, TellsLost}
-use Rattle.random_values.specs.Stretches.{Place}
 use Rattle.share_api.specs.Contents.{Bytes, Contents}
 use Rattle.share_api.specs.Seen.{ShareSeen}
 use Rattle.stored_home.specs.Coherent.{AreFiles}

@@ -31,7 +31,6 @@ use Rattle.stored_home.specs.Bounds.{HasBounds}
 use Rattle.stored_home.specs.Changes.{durable_without}
 use Rattle.stored_home.specs.Coherent.{KeepsBounds}
 use Rattle.stored_home.specs.Holds.{Keys, HoldsBy, HoldsUnder}
-use Rattle.stored_home.specs.Loaded.{HasFactors}
 use Rattle.stored_home.proofs.MapLemmas.{from_some, taken_other}
 use Rattle.user_state.specs.Fits.{Fits, is_lost}
 use Rattle.user_state.specs.Outlines.{mark_in, outline_in}

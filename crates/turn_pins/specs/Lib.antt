@@ -1,2 +1,4 @@
 pub mod Pins
 pub mod Endings
+pub mod Looking
+pub mod Resetting

@@ -2,6 +2,11 @@
 #![tactic(auto)]
 
 mod ending;
+mod keys;
+mod looking;
 mod removal;
+mod reset;
+mod resetting;
 
 pub use removal::remove_pin;
+pub use resetting::reset_pin;
