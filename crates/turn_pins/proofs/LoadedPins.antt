@@ -1,5 +1,5 @@
 -- A loaded PIN, and what is held of it.
-use Rattle.std.proofs.Common.{◌≡◌, ◌≢◌, ℕ, Bool, true, false, Option, None, Some, refl, sym, ap, ◌∙◌, subst, ◌⊎◌, inl, inr, is_some, true≢false}
+use Rattle.std.proofs.Common.{◌≡◌, ◌≢◌, ◌≤◌, ℕ, Bool, true, false, Option, None, Some, refl, sym, ap, ◌∙◌, subst, ◌⊎◌, inl, inr, is_some, true≢false}
 use mathlib.Core.Logic.{dite}
 use native.Mathlib.Decide.{ℕ_discrete}
 use Rattle.std.specs.Prelude.{IfSome, IsSome, IsSomeAnd, IsTrue, option_map}
@@ -17,6 +17,7 @@ use Rattle.share_api.specs.Contents.{Bytes, Contents, Records}
 use Rattle.share_api.specs.Steps as steps
 use Rattle.share_api.specs.declared.leaf.Leaf.{Leaf}
 use Rattle.share_api.specs.declared.leaf.LeafView.{LeafView}
+use Rattle.stash_format.specs.Kept.{HasBoth}
 use Rattle.stash_format.specs.declared.block.Block.{Block}
 use Rattle.stash_format.specs.declared.contents.Contents.{Contents as Stash}
 use Rattle.record_names.specs.Names.{is_factor_label}
@@ -47,7 +48,7 @@ module _ (before : UserState) (sound : IsSound before) (stash : Stash) (is : bef
   pub its_block : (block : Block) × (get stash.blocks label ≡ Some block) × FitsBlock label block row
   its_block = block_of before.account before.stored sound.coherent stash is label row at
 
-  leaf_some : IsSome row.leaf
+  pub leaf_some : IsSome row.leaf
   leaf_some = leaf_there row.kind row.leaf pin its_block.2.plain.leaf
 
   pub its_tree : (tree : ℕ) × (row.leaf ≡ Some tree)
@@ -55,6 +56,18 @@ module _ (before : UserState) (sound : IsSound before) (stash : Stash) (is : bef
 
   pub leaf_known : IsSomeAnd (get before.stored.factors label) (λ (r : FactorRecord). IsSome r.leaf)
   leaf_known = subst (λ o. IsSomeAnd o (λ (r : FactorRecord). IsSome r.leaf)) (sym at) leaf_some
+
+  -- its block and its record, as a try needs them
+  pub block_both : IsSomeAnd before.stored.stash (λ (s : Stash). HasBoth s × IsSome (get s.blocks label))
+  block_both = subst (λ o. IsSomeAnd o (λ (s : Stash). HasBoth s × IsSome (get s.blocks label))) (sym is) (
+    subst (λ o. IfSome o HasBoth) is sound.coherent.both,
+    ap is_some its_block.1,
+  )
+
+  pub row_known : IsSomeAnd (get before.stored.factors label)
+      (λ (r : FactorRecord). IsSome r.leaf × (1 ≤ r.cost) × (r.cost ≤ 16))
+  row_known = subst (λ o. IsSomeAnd o (λ (r : FactorRecord). IsSome r.leaf × (1 ≤ r.cost) × (r.cost ≤ 16))) (sym at)
+      (leaf_some, its_block.2.plain.cost, its_block.2.plain.most)
 
 -- ---- over contents
 

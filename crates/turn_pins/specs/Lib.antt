@@ -2,3 +2,4 @@ pub mod Pins
 pub mod Endings
 pub mod Looking
 pub mod Resetting
+pub mod Trying

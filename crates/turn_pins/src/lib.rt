@@ -7,6 +7,9 @@ mod looking;
 mod removal;
 mod reset;
 mod resetting;
+mod trial;
+mod trying;
 
 pub use removal::remove_pin;
 pub use resetting::reset_pin;
+pub use trying::authenticate_pin;
