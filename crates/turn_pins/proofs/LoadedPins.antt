@@ -1,21 +1,18 @@
 -- A loaded PIN, and what is held of it.
-use Rattle.std.proofs.Common.{◌≡◌, ◌≢◌, ◌≤◌, ℕ, Bool, true, false, Option, None, Some, refl, sym, ap, ◌∙◌, subst, ◌⊎◌, inl, inr, is_some, true≢false}
+use Rattle.std.proofs.Common.{◌≡◌, ◌≢◌, ◌≤◌, ℕ, Bool, false, None, Some, sym, ap, ◌∙◌, subst, ◌⊎◌, inl, inr, is_some}
 use mathlib.Core.Logic.{dite}
 use native.Mathlib.Decide.{ℕ_discrete}
 use Rattle.std.specs.Prelude.{IfSome, IsSome, IsSomeAnd, IsTrue, option_map}
 use Rattle.std.specs.FinMap.{get, insert}
-use Rattle.account_machine.specs.Effect.{cleared, missed}
+use Rattle.account_machine.specs.Effect.{cleared}
 use Rattle.account_machine.specs.declared.factor.Factor.{Factor}
-use Rattle.account_machine.specs.declared.factor.Kind.{Kind}
-use Rattle.account_machine.specs.declared.factor.Kind.TheVariants.{Password, Pin}
+use Rattle.account_machine.specs.declared.factor.Kind.TheVariants.{Pin}
 use Rattle.account_machine.specs.declared.user.Durable.{Durable}
 use Rattle.account_machine.specs.declared.user.User.{User}
-use Rattle.factor_files.specs.Record.{LeafFits}
 use Rattle.factor_files.specs.declared.factor.FactorRecord.{FactorRecord}
 use Rattle.pin_edits.proofs.PinCounted.{HoldsPin, pin_held}
 use Rattle.share_api.specs.Contents.{Bytes, Contents, Records}
 use Rattle.share_api.specs.Steps as steps
-use Rattle.share_api.specs.declared.leaf.Leaf.{Leaf}
 use Rattle.share_api.specs.declared.leaf.LeafView.{LeafView}
 use Rattle.stash_format.specs.Kept.{HasBoth}
 use Rattle.stash_format.specs.declared.block.Block.{Block}
@@ -25,7 +22,7 @@ use Rattle.stored_home.specs.Changes.{durable_set}
 use Rattle.stored_home.specs.Coherent.{FitsBlock}
 use Rattle.stored_home.specs.Holds.{Keys, HoldsUnder, record_at}
 use Rattle.stored_home.specs.Loaded.{IsKept, HasFactors}
-use Rattle.stored_home.proofs.MapLemmas.{from_some, put_same, put_at, some_is}
+use Rattle.stored_home.proofs.MapLemmas.{from_some, put_same, some_is}
 use Rattle.user_state.specs.Fits.{Fits, TellsLeaf, is_lost, view_of}
 use Rattle.user_state.specs.Sound.{IsSound}
 use Rattle.user_state.specs.declared.state.UserState.{UserState}

@@ -1,5 +1,5 @@
 -- A leaf is looked at, and then at most one step is made.
-use Rattle.std.proofs.Common.{◌≡◌, ◌≢◌, ℕ, ◌+◌, ◌≤◌, List, [], ◌∷◌, ◌++◌, length, Option, None, Some, Result, Ok, Err, Bool, refl, sym, ap, ◌∙◌, subst, ◌⊎◌, inl, inr, ⊎_elim, is_some, arith}
+use Rattle.std.proofs.Common.{◌≡◌, ◌≢◌, ℕ, ◌≤◌, List, [], ◌∷◌, ◌++◌, length, Option, None, Some, Result, Ok, Err, Bool, refl, sym, ap, ◌∙◌, subst, inl, inr, ⊎_elim, is_some, arith}
 use Rattle.std.specs.Prelude.{IfErr, IsErrOf, IsSomeAnd, option_map}
 use Rattle.std.specs.FinMap.{get}
 use Rattle.account_machine.specs.declared.answer.Answer.{Answer}
@@ -16,7 +16,7 @@ use Rattle.share_api.specs.Folds.{Fold, Throughout}
 use Rattle.share_api.specs.Places.{steps_of}
 use Rattle.share_api.specs.Replies.{view_reply}
 use Rattle.share_api.specs.Seen.{ShareSeen, Makes, Runs, HasFailed, step_of}
-use Rattle.share_api.specs.Steps.{Does, DoesAmong, Leads as StepLeads, view_of}
+use Rattle.share_api.specs.Steps.{Does, view_of}
 use Rattle.share_api.specs.declared.fault.ShareFault.{ShareFault}
 use Rattle.share_api.specs.declared.fault.ShareFault.TheVariants as shares
 use Rattle.share_api.specs.declared.leaf.Leaf.{Leaf}
@@ -26,7 +26,7 @@ use Rattle.share_api.specs.declared.step.Reply.{Reply}
 use Rattle.share_api.specs.declared.step.Reply.TheVariants.{Viewed, Failed, TreeLost}
 use Rattle.share_api.specs.declared.step.Step.{Step}
 use Rattle.share_api.proofs.FoldLaws.{fold_split, throughout_append, throughout_among, fold_among}
-use Rattle.share_api.proofs.RunLaws.{runs_then, runs_none}
+use Rattle.share_api.proofs.RunLaws.{runs_then}
 use Rattle.home_edits.proofs.CostLemmas.{same_rest}
 use Rattle.home_recovery.proofs.ReadLemmas.{reads_stay, reads_keep}
 use Rattle.stored_home.specs.Holds.{Keys, Holds, HoldsUnder}
@@ -156,11 +156,18 @@ module _ (old mid new : ShareSeen) (before : UserState) (ready : IsReady before)
               l.steps clear l.reads (inl (keys, p.holds)))
               (λ c f. few_throughout old.era
               (HoldsAround (is_lost before) before.account user.durable (Given old.era user turn answer)) c steps few
-              (inl (keys, subst (λ x. HoldsUnder (is_lost before) x before.account user.durable keys) (sym (stays c f))
-              p.holds))
+              (inl (
+                keys,
+                subst (λ x. HoldsUnder (is_lost before) x before.account user.durable keys) (sym (stays c f))
+                    p.holds,
+              ))
               (λ end g. let a = at_end c f end g in
-              inr (a.next, a.allowed, subst (λ lost. HoldsOne lost end before.account a.next) (ap is_some keeps.lost)
-              (one_held (is_lost after) end before.account a.next a.keys a.holds)))));
+              inr (
+                a.next,
+                a.allowed,
+                subst (λ lost. HoldsOne lost end before.account a.next) (ap is_some keeps.lost)
+                    (one_held (is_lost after) end before.account a.next a.keys a.holds),
+              ))));
           leads = λ end fold.
               let parts = fold_split (Does old.era) contents end l.steps steps
               (fold_among old.era seen contents end (l.steps ++ steps) fold) in

@@ -1,10 +1,9 @@
 -- How the try of a leaf ends a turn, by its fault.
-use Rattle.std.proofs.Common.{◌≡◌, ◌⊎◌, ⊎_elim, ℕ, Bool, true, false, Option, None, Some, Result, Ok, Err, refl, sym, ap, ◌∙◌, subst}
+use Rattle.std.proofs.Common.{◌≡◌, ◌⊎◌, ⊎_elim, ℕ, Option, None, Some, Result, Ok, Err, refl, sym, ◌∙◌, subst}
 use Rattle.std.specs.Prelude.{IfErr}
 use Rattle.account_machine.specs.declared.answer.Answer.{Answer}
 use Rattle.account_machine.specs.declared.answer.Answer.TheVariants as answers
 use Rattle.auth_session.specs.Table.{Table, proved_kept}
-use Rattle.auth_session.specs.declared.table.Kept.{Kept}
 use Rattle.home_edits.specs.Edits.{told_fault}
 use Rattle.share_api.specs.Contents.{Bytes}
 use Rattle.share_api.specs.Seen.{ShareSeen}
@@ -16,8 +15,6 @@ use Rattle.share_api.specs.declared.leaf.TryAnswer.TheVariants.{Right, Wrong, De
 use Rattle.share_api.specs.Conditions.{TellsLoss}
 use Rattle.stored_home.specs.declared.fault.StoreFault.{StoreFault}
 use Rattle.stored_home.specs.declared.fault.StoreFault.TheVariants as faults
-use Rattle.stored_home.specs.declared.stored.Stored.{Stored}
-use Rattle.random_values.specs.Stretches.{Place}
 use Rattle.user_state.specs.Sound.{IsSound, IsKeyed, IsTellable}
 use Rattle.user_state.specs.declared.state.Doubt.{Doubt}
 use Rattle.user_state.specs.declared.state.Doubt.TheVariants.{Leaf}
@@ -28,7 +25,7 @@ use Rattle.turn_secrets.proofs.Sounds.{sound_doubted}
 use Rattle.turn_pins.specs.Endings.{TellsTree}
 use Rattle.turn_pins.specs.Looking.{IsLeafDoubt, IsLookFault, IsRefusal}
 use Rattle.turn_pins.specs.Resetting.{IsToldAnswer}
-use Rattle.turn_pins.specs.Trying.{RightEnds, TriedEnds, TryEnds, SeenTried, TryHeld}
+use Rattle.turn_pins.specs.Trying.{RightEnds, TriedEnds, SeenTried, TryHeld}
 use Rattle.turn_pins.specs.declared.trial.Trial.{Trial}
 
 -- a fault of the try, as it is told
@@ -110,8 +107,8 @@ damaged_calm name = record {
 
 told_calm : (name : Bytes) (answer : Answer) → (answer ≡ answers.Damaged name) ⊎ (answer ≡ answers.NoMemory)
     → IsCalm answer
-told_calm name answer is = ⊎_elim (λ e. subst IsCalm (sym e) (damaged_calm name)) (λ e. subst IsCalm (sym e) memory_calm)
-    is
+told_calm name answer is = ⊎_elim (λ e. subst IsCalm (sym e) (damaged_calm name))
+    (λ e. subst IsCalm (sym e) memory_calm) is
 
 module _ (label : Bytes) (before : UserState) (none : before.doubt ≡ None) (whole : before.stored.lost ≡ None) where
   -- the sessions alone change
@@ -130,7 +127,8 @@ module _ (label : Bytes) (before : UserState) (none : before.doubt ≡ None) (wh
     tree = c.tree;
   }
 
-  same_kept : (after : UserState) (answer : Answer) → after ≡ before → IsCalm answer → LeafKept label before after answer
+  same_kept : (after : UserState) (answer : Answer) → after ≡ before → IsCalm answer
+      → LeafKept label before after answer
   same_kept after answer is c = subst (λ (s : UserState). LeafKept label before s answer) (sym is)
       (calm_kept answer before.sessions c)
 
@@ -145,8 +143,8 @@ module _ (label : Bytes) (before : UserState) (none : before.doubt ≡ None) (wh
       })))
 
   module _ (trial : Trial) (label_is : trial.label ≡ label) (view : LeafView) (at : ℕ) where
-    tried_kept : (gave : Result TryAnswer ShareFault) (lost : Option (Bytes × Bytes)) → TellsLoss lost gave → lost ≡ None
-        → (after : UserState) (answer : Answer) → TriedEnds gave trial view at before after answer
+    tried_kept : (gave : Result TryAnswer ShareFault) (lost : Option (Bytes × Bytes)) → TellsLoss lost gave
+        → lost ≡ None → (after : UserState) (answer : Answer) → TriedEnds gave trial view at before after answer
         → LeafKept label before after answer
     tried_kept (Ok (Right high)) lost tells found after answer h = right_kept _ at after answer h
     tried_kept (Ok Wrong) lost tells found after answer h = same_kept after answer h.0 (subst IsCalm (sym h.1) (record {
@@ -162,10 +160,11 @@ module _ (label : Bytes) (before : UserState) (none : before.doubt ≡ None) (wh
           tree = λ host chip e. let z : ◌≡◌ {A = Answer} (answers.Delayed seconds) (answers.TreeLost host chip) = e in
               cc z;
         }
-    tried_kept (Ok Locked) lost tells found after answer h = same_kept after answer h.0 (subst IsCalm (sym h.1) (record {
-      calm = λ e. let z : ◌≡◌ {A = Answer} answers.Locked answers.StorageFault = e in cc z;
-      tree = λ host chip e. let z : ◌≡◌ {A = Answer} answers.Locked (answers.TreeLost host chip) = e in cc z;
-    }))
+    tried_kept (Ok Locked) lost tells found after answer h =
+        same_kept after answer h.0 (subst IsCalm (sym h.1) (record {
+          calm = λ e. let z : ◌≡◌ {A = Answer} answers.Locked answers.StorageFault = e in cc z;
+          tree = λ host chip e. let z : ◌≡◌ {A = Answer} answers.Locked (answers.TreeLost host chip) = e in cc z;
+        }))
     tried_kept (Err shares.Failed) lost tells found after answer h =
         subst (λ (s : UserState). LeafKept label before s answer) (sym h.0) (record {
           keeps = record { account = refl; cost = refl; last = refl };

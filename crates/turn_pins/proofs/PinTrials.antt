@@ -1,20 +1,17 @@
 -- A PIN is tried.
-use Rattle.std.proofs.Common.{◌≡◌, ◌≢◌, ℕ, ◌+◌, ◌-◌, ◌≤◌, ◌<◌, List, [], ◌∷◌, ◌++◌, length, take, Bool, true, false, not, Option, None, Some, Result, Ok, Err, IsOk, refl, sym, ap, ◌∙◌, subst, ◌⊎◌, inl, inr, ⊎_elim, is_some, option_map, bytes_eq, true≢false, arith}
+use Rattle.std.proofs.Common.{◌≡◌, ◌≢◌, ℕ, ◌+◌, ◌-◌, ◌<◌, List, [], length, take, Bool, true, false, not, Option, None, Some, refl, sym, ap, ◌∙◌, subst, ◌⊎◌, inl, inr, ⊎_elim, is_some, option_map, bytes_eq, true≢false, arith}
 use Rattle.std.proofs.lemmas.Slice.Eq.{bytes_eq-Decides}
-use Rattle.std.specs.Prelude.{IfErr, IfSome, IsErrOf, IsSome, IsSomeAnd, IsTrue, Contains, slice_get, option_and_then, if◌then◌else◌}
-use Rattle.std.specs.List.{AllByRecursion}
+use Rattle.std.specs.Prelude.{IfSome, Contains, slice_get, option_and_then, if◌then◌else◌}
 use Rattle.std.specs.FinMap.{get}
-use Rattle.name_map.specs.Mapped.{map_values}
 use Rattle.name_map.proofs.MappedLemmas.{get-map_values}
-use Rattle.account_machine.specs.Effect.{Outcome, gives, cleared, missed, set_factor, proved, proved_end, pin_compared, pin_tried, readiness_now, tried, authenticated, right_pin}
+use Rattle.account_machine.specs.Effect.{gives, cleared, missed, set_factor, proved, proved_end, pin_tried, readiness_now, tried, authenticated, right_pin}
 use Rattle.account_machine.specs.Outline.{session_at, is_pin_kind}
 use Rattle.account_machine.specs.Row.{turn_refusals, turn_names_tree, is_pin_mark}
 use Rattle.account_machine.specs.Sessions.{place_of, changed}
-use Rattle.account_machine.specs.Step.{Row, Given, by_row, unsettles}
+use Rattle.account_machine.specs.Step.{Row}
 use Rattle.account_machine.specs.declared.answer.Answer.{Answer}
 use Rattle.account_machine.specs.declared.answer.Answer.TheVariants as answers
 use Rattle.account_machine.specs.declared.factor.Factor.{Factor}
-use Rattle.account_machine.specs.declared.factor.Kind.{Kind}
 use Rattle.account_machine.specs.declared.factor.Kind.TheVariants.{Pin}
 use Rattle.account_machine.specs.declared.request.Request.TheVariants.{Authenticate}
 use Rattle.account_machine.specs.declared.request.Turn.{Turn}
@@ -23,11 +20,9 @@ use Rattle.account_machine.specs.declared.session.Session.{Session}
 use Rattle.account_machine.specs.declared.session.Token.{Token}
 use Rattle.account_machine.specs.declared.user.Durable.{Durable}
 use Rattle.account_machine.specs.declared.user.User.{User}
-use Rattle.auth_session.specs.Table.{Table, sessions_in, edit_at, proved_kept}
+use Rattle.auth_session.specs.Table.{sessions_in}
 use Rattle.auth_session.specs.declared.table.Kept.{Kept}
-use Rattle.auth_session.proofs.TableLemmas.{changed-edit_at}
 use Rattle.factor_files.specs.declared.factor.FactorRecord.{FactorRecord}
-use Rattle.home_edits.specs.Edits.{Starts}
 use Rattle.home_edits.proofs.PasswordEdits.{wrap_is}
 use Rattle.pin_edits.specs.Tries.{EditsByTry, TriesPin, AnswersPin, durable_tried, is_low, low_of, told_try}
 use Rattle.pin_edits.specs.Tries as tries
@@ -37,32 +32,28 @@ use Rattle.pw_types.specs.declared.era.Era.{Era}
 use Rattle.scrypt_kdf.specs.Derive.{derive, derive_32}
 use Rattle.sealed_text.specs.OpeningSealed.{Opens, opened}
 use Rattle.sealed_text.proofs.OpeningLemmas.{opened_by_tag}
-use Rattle.secret_stash.specs.Keys.{pin_wrap}
 use Rattle.share_api.specs.Contents.{Bytes, Contents}
 use Rattle.share_api.specs.declared.leaf.LeafView.{LeafView}
 use Rattle.share_api.specs.declared.leaf.TryAnswer.{TryAnswer}
 use Rattle.share_api.specs.declared.leaf.TryAnswer.TheVariants.{Right, Wrong, Delayed, Locked}
-use Rattle.stash_format.specs.Forms.{block_extra, main_of}
+use Rattle.stash_format.specs.Forms.{main_of}
 use Rattle.stash_format.specs.declared.block.Block.{Block}
 use Rattle.stash_format.specs.declared.contents.Contents.{Contents as Stash}
 use Rattle.stored_home.specs.Clean.{DeriveInput, IsDeriveInput, IsClean, IsTurnSecret}
-use Rattle.stored_home.specs.Changes.{durable_set}
 use Rattle.stored_home.specs.Holds.{Keys, HoldsUnder, record_at}
-use Rattle.stored_home.proofs.MapLemmas.{either, from_some, not_None, put_at}
+use Rattle.stored_home.proofs.MapLemmas.{either, put_at}
 use Rattle.user_state.specs.Fits.{Fits, is_lost, view_of}
 use Rattle.user_state.specs.Outlines.{mark_in, outline_in}
 use Rattle.user_state.specs.Sound.{IsSound}
 use Rattle.user_state.specs.declared.state.UserState.{UserState}
 use Rattle.turn_rows.specs.Due.{IsReady, IsDue}
 use Rattle.turn_rows.proofs.Quiet.{row_by, as_user}
-use Rattle.turn_edits.proofs.Factors.{is_made, own_stash}
+use Rattle.turn_edits.proofs.Factors.{is_made}
 use Rattle.turn_edits.proofs.Held.{stash_by}
 use Rattle.turn_edits.proofs.Tests.{test_at}
 use Rattle.turn_secrets.proofs.Tried.{kept_at, session_there}
 use Rattle.turn_pins.specs.Pins.{IsPinAt}
-use Rattle.turn_pins.specs.Trying.{IsTrial}
-use Rattle.turn_pins.specs.declared.trial.Trial.{Trial}
-use Rattle.turn_pins.proofs.LoadedPins.{cleared_apart, its_pin, tree_found}
+use Rattle.turn_pins.proofs.LoadedPins.{cleared_apart, its_pin}
 
 not_not : (b : Bool) → not b ≡ false → b ≡ true
 not_not true e = refl
@@ -175,7 +166,8 @@ module _ (era : Era) (user : User) (token : Token) (label : Bytes) (factor : Fac
 -- ---- what the leaf's answer says of both
 
 pub right_means : (r : Readiness) (b : Bool) (high other : Bytes)
-    → ◌≡◌ {A = TryAnswer} (Right high) (tries.answer_of r b other) → (r ≡ readinesses.Ready) × (b ≡ true) × (high ≡ other)
+    → ◌≡◌ {A = TryAnswer} (Right high) (tries.answer_of r b other)
+    → (r ≡ readinesses.Ready) × (b ≡ true) × (high ≡ other)
 right_means readinesses.Ready true high other e = let same : high ≡ other = cc in (refl, refl, same)
 right_means readinesses.Ready false high other e = absurd (cc e)
 right_means (readinesses.Delayed until) b high other e = absurd (cc e)

@@ -1,7 +1,7 @@
 -- The turn of a PIN's try, by what the leaf answered.
-use Rattle.std.proofs.Common.{◌≡◌, ◌≢◌, ℕ, ◌-◌, ◌≤◌, ◌<◌, List, [], ◌∷◌, ◌++◌, length, take, Bool, true, false, Option, None, Some, Result, Ok, Err, IsOk, refl, sym, ap, ◌∙◌, subst, ◌⊎◌, inl, inr, ⊎_elim, is_some, option_map, bytes_eq, true≢false, arith}
+use Rattle.std.proofs.Common.{◌≡◌, ◌≢◌, ℕ, ◌-◌, ◌≤◌, ◌<◌, List, [], ◌∷◌, ◌++◌, length, take, Bool, true, false, Option, None, Some, Result, Ok, Err, IsOk, refl, sym, ap, ◌∙◌, subst, ◌⊎◌, inl, inr, ⊎_elim, is_some, option_map, bytes_eq, arith}
 use Rattle.std.proofs.lemmas.Slice.Eq.{bytes_eq-Decides}
-use Rattle.std.specs.Prelude.{IfErr, IfSome, IsErrOf, slice_get}
+use Rattle.std.specs.Prelude.{IfErr, IsErrOf, slice_get}
 use Rattle.std.specs.List.{AllByRecursion}
 use Rattle.std.specs.FinMap.{get}
 use Rattle.account_machine.specs.Effect.{proved, proved_end, readiness_now}
@@ -48,14 +48,13 @@ use Rattle.share_api.specs.declared.step.Step.{Step}
 use Rattle.share_api.proofs.FoldLaws.{throughout_end}
 use Rattle.share_api.proofs.RunLaws.{failed_either, runs_none}
 use Rattle.stash_format.specs.Forms.{block_extra, main_of}
-use Rattle.stash_format.specs.declared.contents.Contents.{Contents as Stash}
 use Rattle.stored_home.specs.Adding.{HoldsEither}
 use Rattle.stored_home.specs.Holds.{Keys, HoldsUnder}
 use Rattle.stored_home.specs.Loaded.{IsKept}
 use Rattle.stored_home.specs.declared.fault.StoreFault.{StoreFault}
 use Rattle.stored_home.specs.declared.fault.StoreFault.TheVariants as faults
 use Rattle.stored_home.proofs.MapLemmas.{from_some, not_None}
-use Rattle.user_state.specs.Fits.{Fits, IsProved, is_lost}
+use Rattle.user_state.specs.Fits.{IsProved, is_lost}
 use Rattle.user_state.specs.Sound.{IsSound}
 use Rattle.user_state.specs.Turns.{IsGiven, Leads, Premises, KeepsAccount}
 use Rattle.user_state.specs.declared.state.Doubt.TheVariants.{Leaf}
@@ -65,9 +64,9 @@ use Rattle.turn_rows.proofs.Kept.{all_edit}
 use Rattle.turn_rows.proofs.Quiet.{settled_now, stands_settled}
 use Rattle.turn_edits.proofs.Factors.{own_stash}
 use Rattle.turn_secrets.specs.Listing.{Looks}
-use Rattle.turn_pins.specs.Looking.{TellsView, IsLookFault, IsRefusal}
+use Rattle.turn_pins.specs.Looking.{TellsView, IsLookFault}
 use Rattle.turn_pins.specs.Pins.{IsPinAt}
-use Rattle.turn_pins.specs.Trying.{IsTrial, IsDamagedBy, RightEnds, TriedEnds, TryEnds, SeenTried, TryHeld}
+use Rattle.turn_pins.specs.Trying.{IsTrial, RightEnds, TriedEnds, TryEnds, SeenTried, TryHeld}
 use Rattle.turn_pins.specs.declared.trial.Trial.{Trial}
 use Rattle.turn_pins.proofs.LookedLeaf.{only_step, append_none, looked_given, looked_stood}
 use Rattle.turn_pins.proofs.LoadedPins.{its_pin, leaf_tells}
@@ -86,8 +85,8 @@ try_frames era moment tree les (Err shares.NoMemory) contents mid l = ap (λ (c 
 
 module _ (before : UserState) (ready : IsReady before) (sound : IsSound before) (account : Bytes) (token : Token)
     (label secret : Bytes) (due : IsDue before (Act (Authenticate account token label secret)))
-    (pin : IsPinAt before.stored label) (row : FactorRecord) (at : get before.stored.factors label ≡ Some row) (tree : ℕ)
-    (names : row.leaf ≡ Some tree) (whole : before.stored.lost ≡ None) (place : ℕ)
+    (pin : IsPinAt before.stored label) (row : FactorRecord) (at : get before.stored.factors label ≡ Some row)
+    (tree : ℕ) (names : row.leaf ≡ Some tree) (whole : before.stored.lost ≡ None) (place : ℕ)
     (place_is : place ≡ place_of token (sessions_in before.sessions.kept))
     (inside : place < length before.sessions.kept) (trial : Trial)
     (fits_trial : IsTrial before.stored label secret trial) (tree_is : trial.tree ≡ tree) where
@@ -154,7 +153,8 @@ module _ (before : UserState) (ready : IsReady before) (sound : IsSound before) 
         part_is : (r : Readiness) (b : Bool) → R ≡ r → L ≡ b
             → tried_part ≡ (after_try r b mid.era user token label f).durable
         part_is r b r_is b_is =
-            (λ i. durable_tried (readiness_now mid.era (p.fits.last i) f) L mid.era (p.fits.last i) user.durable label f)
+            (λ i. durable_tried (readiness_now mid.era (p.fits.last i) f) L mid.era (p.fits.last i) user.durable label
+            f)
             ∙ (λ i. durable_tried (r_is i) (b_is i) mid.era user.last user.durable label f)
             ∙ sym (durable_is mid.era user token label f r b)
 
@@ -287,8 +287,8 @@ module _ (before : UserState) (ready : IsReady before) (sound : IsSound before) 
               holds = subst (λ (t : Bool × Durable). HoldsEither t.0 before.account keys user.durable t.1 end)
                   (λ i. (mid_lost i, part_is R L refl refl i))
                   (throughout_end (Does mid.era)
-                  (HoldsEither (is_some mid.lost) before.account keys user.durable tried_part) contents end e.edits.steps
-                  (e.edits.atomic contents keys user.durable tried_part starts).throughout fold);
+                  (HoldsEither (is_some mid.lost) before.account keys user.durable tried_part) contents end
+                  e.edits.steps (e.edits.atomic contents keys user.durable tried_part starts).throughout fold);
               idle = λ none. absurd (subst HasFailed (append_none l.steps e.edits.steps none) (e.edits.fails is));
             }
 
@@ -326,9 +326,14 @@ module _ (before : UserState) (ready : IsReady before) (sound : IsSound before) 
           (λ k. let z : ◌≡◌ {A = Answer} (answers.Delayed (until - before.last)) answers.StorageFault = k in cc z)
           (λ seen contents user keys p end fold.
           let m = delayed_means (R seen contents user keys p) (L seen contents user keys p) until _
-          (means seen contents user keys p (Delayed until) is end fold) in
-          (readinesses.Delayed until, L seen contents user keys p, m, refl,
-          (λ i. answers.Delayed (until - p.fits.last i)), refl))
+          (means seen contents user keys p (Delayed until) is end fold) in (
+            readinesses.Delayed until,
+            L seen contents user keys p,
+            m,
+            refl,
+            (λ i. answers.Delayed (until - p.fits.last i)),
+            refl,
+          ))
 
       locked_given : gave ≡ Ok Locked → IsGiven old new before before turn answers.Locked
       locked_given is = plain_given Locked is answers.Locked
@@ -435,7 +440,8 @@ module _ (before : UserState) (ready : IsReady before) (sound : IsSound before) 
     right_by high is None none h =
         let stands = damaged_stands h.0 answer h.1.1 in
         subst (λ (s : UserState). IsGiven old new before s turn answer) (sym h.1.0)
-        (unopened_given old mid new lost view failed l (told_try t.tried) edited few frames high is none answer stands.1)
+        (unopened_given old mid new lost view failed l (told_try t.tried) edited few frames high is none answer
+        stands.1)
     right_by high is (Some main) opens h =
         subst (λ (s : UserState × Answer). IsGiven old new before s.0 turn s.1) (λ i. (sym h.3 i, sym h.2 i))
         (right_given old mid new lost view failed l (told_try t.tried) edited few frames high is main opens h.0 h.1)

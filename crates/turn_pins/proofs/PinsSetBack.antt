@@ -1,13 +1,12 @@
 -- A PIN's count is set back.
-use Rattle.std.proofs.Common.{◌≡◌, ◌≢◌, ℕ, ◌≤◌, List, [], ◌∷◌, ◌++◌, length, Bool, true, false, not, Option, None, Some, Result, Ok, Err, IsOk, refl, sym, ap, ◌∙◌, subst, ◌⊎◌, inl, inr, ⊎_elim, is_some, option_map, true≢false, arith}
-use Rattle.std.specs.Prelude.{IfErr, IsErrOf, IsSomeAnd, option_and_then}
+use Rattle.std.proofs.Common.{◌≡◌, ◌≢◌, ℕ, ◌≤◌, List, [], ◌∷◌, length, Bool, true, false, not, Option, None, Some, Result, Ok, Err, refl, sym, ap, ◌∙◌, subst, ◌⊎◌, inl, inr, ⊎_elim, is_some, true≢false, arith}
+use Rattle.std.specs.Prelude.{IfErr, IsErrOf, option_and_then}
 use Rattle.std.specs.FinMap.{get}
 use Rattle.name_map.specs.Mapped.{map_values}
-use Rattle.name_map.proofs.MappedLemmas.{get-map_values}
 use Rattle.account_machine.specs.Effect.{gives, cleared, set_factor}
-use Rattle.account_machine.specs.Outline.{Marks, is_pin_kind, session_at}
+use Rattle.account_machine.specs.Outline.{Marks, is_pin_kind}
 use Rattle.account_machine.specs.Row.{turn_refusals, turn_names_tree, is_pin_mark}
-use Rattle.account_machine.specs.Step.{Row, Given, IsStandIn, by_row, unsettles, refusal_now}
+use Rattle.account_machine.specs.Step.{Row, IsStandIn, by_row, unsettles}
 use Rattle.account_machine.specs.declared.answer.Answer.{Answer}
 use Rattle.account_machine.specs.declared.answer.Answer.TheVariants as answers
 use Rattle.account_machine.specs.declared.factor.Factor.{Factor}
@@ -26,6 +25,7 @@ use Rattle.pin_edits.specs.Faults.{IsStashFault}
 use Rattle.pin_edits.specs.Resets.{EditsByReset, ResetsPin, told_reset}
 use Rattle.pin_edits.proofs.PinReset.{reset_edits}
 use Rattle.pw_types.specs.declared.era.Era.{Era}
+use Rattle.record_names.specs.Names.{stash_name}
 use Rattle.share_api.specs.Conditions.{IsTryFault, TellsLoss}
 use Rattle.share_api.specs.Contents.{Bytes, Contents, settled}
 use Rattle.share_api.specs.Folds.{Fold}
@@ -48,10 +48,10 @@ use Rattle.stored_home.specs.Loaded.{IsKept}
 use Rattle.stored_home.specs.declared.fault.StoreFault.{StoreFault}
 use Rattle.stored_home.specs.declared.fault.StoreFault.TheVariants as faults
 use Rattle.stored_home.proofs.MapLemmas.{from_some, put_at}
-use Rattle.user_state.specs.Fits.{Fits, StandsBy, TellsLeaf, is_lost}
+use Rattle.user_state.specs.Fits.{Fits, is_lost}
 use Rattle.user_state.specs.Outlines.{mark_in, outline_in}
 use Rattle.user_state.specs.Sound.{IsSound}
-use Rattle.user_state.specs.Turns.{IsGiven, Leads, Premises}
+use Rattle.user_state.specs.Turns.{IsGiven}
 use Rattle.user_state.specs.declared.state.Doubt.{Doubt}
 use Rattle.user_state.specs.declared.state.Doubt.TheVariants.{Leaf}
 use Rattle.user_state.specs.declared.state.UserState.{UserState}
@@ -68,7 +68,7 @@ use Rattle.turn_pins.specs.Looking.{TellsView, IsLookFault, IsRefusal}
 use Rattle.turn_pins.specs.Resetting.{IsToldAnswer, IsResetMade, ResetEnds, SeenEnds, ResetHeld}
 use Rattle.turn_pins.specs.declared.reset.Reset.{Reset}
 use Rattle.turn_pins.proofs.LookedLeaf.{only_step, append_none, looked_given, looked_stood}
-use Rattle.turn_pins.proofs.LoadedPins.{cleared_apart, its_pin, leaf_tells, tree_found}
+use Rattle.turn_pins.proofs.LoadedPins.{cleared_apart, its_pin, leaf_tells}
 
 not_not : (b : Bool) → not b ≡ false → b ≡ true
 not_not true e = refl
@@ -138,6 +138,14 @@ stash_stands account faults.Failed answer only is = absurd only
 stash_stands account (faults.Damaged name) answer only is = (damaged_stands name answer is).0
 stash_stands account faults.NoMemory answer only is = inl is
 stash_stands account (faults.TreeLost host chip) answer only is = absurd only
+
+pub stash_says : (account : Bytes) (fault : StoreFault) (answer : Answer) → IsStashFault account fault
+    → IsRefusal fault answer → (answer ≡ answers.NoMemory) ⊎ (answer ≡ answers.Damaged (stash_name account))
+stash_says account faults.Failed answer only is = absurd only
+stash_says account (faults.Damaged name) answer only is =
+    ⊎_elim (λ d. inr (d ∙ ap (λ (n : Bytes). answers.Damaged n) only)) (λ m. inl m) is
+stash_says account faults.NoMemory answer only is = inl is
+stash_says account (faults.TreeLost host chip) answer only is = absurd only
 
 -- the state after a turn that looked at a leaf and reset it
 held_by_view : (mid new : ShareSeen) (reset : Reset) (before after : UserState) (answer : Answer)
@@ -307,8 +315,8 @@ module _ (before : UserState) (ready : IsReady before) (sound : IsSound before) 
               stands = record {
                 other = next;
                 other_is = refl;
-                tells = leaf_tells before ready whole label row at tree names contents user keys p.fits p.holds view told
-                    end (frames contents end s.kept.clear f) (cleared factor)
+                tells = leaf_tells before ready whole label row at tree names contents user keys p.fits p.holds view
+                    told end (frames contents end s.kept.clear f) (cleared factor)
                     (its_pin before ready whole label row at tree names contents user keys p.fits p.holds).pin.is_pin
                     refl next (put_at user.durable.factors label (cleared factor))
                     (cleared_apart user.durable label factor (there contents user keys p.fits p.holds));

@@ -1,10 +1,12 @@
 -- The reset of a PIN, as a turn makes it.
-use Rattle.std.specs.Prelude.{◌≡◌, ◌⊎◌, ℕ, Bool, Some, Result, Ok, Err, IfErr, IsErrOf}
+use Rattle.std.specs.Prelude.{◌≡◌, ◌⊎◌, Bool, Some, Result, Ok, Err, IfErr, IsErrOf}
 use Rattle.std.specs.FinMap.{get}
 use Rattle.account_machine.specs.declared.answer.Answer.{Answer}
 use Rattle.account_machine.specs.declared.answer.Answer.TheVariants as answers
+use Rattle.account_machine.specs.declared.session.Token.{Token}
 use Rattle.factor_files.specs.declared.factor.FactorRecord.{FactorRecord}
 use Rattle.pin_edits.specs.Resets.{IsResetOf, told_reset}
+use Rattle.record_names.specs.Names.{stash_name, factor_name}
 use Rattle.share_api.specs.Conditions.{IsTryFault, TellsLoss}
 use Rattle.share_api.specs.Contents.{Bytes}
 use Rattle.share_api.specs.Replies.{fits_reply}
@@ -19,6 +21,7 @@ use Rattle.stored_home.specs.declared.stored.Stored.{Stored}
 use Rattle.user_state.specs.declared.state.Doubt.TheVariants.{Leaf}
 use Rattle.user_state.specs.declared.state.UserState.{UserState}
 use Rattle.turn_edits.specs.Endings.{doubt_of}
+use Rattle.turn_edits.specs.Sessions.{main_in}
 use Rattle.turn_secrets.specs.Listing.{Looks}
 use Rattle.turn_pins.specs.Looking.{TellsView, IsLookFault, IsRefusal}
 use Rattle.turn_pins.specs.declared.reset.Reset.{Reset}
@@ -37,6 +40,11 @@ IsResetMade stored label main reset = (row : FactorRecord) (stash : Stash)
     → get stored.factors label ≡ Some row → stored.stash ≡ Some stash
     → IsResetOf stash main label row reset.tree reset.secret
 
+-- the name that was made is that of the PIN's record
+abbrev pub IsResetNamed : Stored → Bytes → Bytes → Reset → Type 0
+IsResetNamed stored account label reset = (row : FactorRecord) → get stored.factors label ≡ Some row
+    → reset.name ≡ factor_name account label row.edition
+
 -- The leaf was reset, once it had shown this.
 pub record ResetEnds (old new : ShareSeen) (reset : Reset) (view : LeafView) (before after : UserState)
     (answer : Answer) : Type 0 where
@@ -50,7 +58,8 @@ pub record ResetEnds (old new : ShareSeen) (reset : Reset) (view : LeafView) (be
   }
 
 -- by what the look at the leaf showed
-abbrev pub SeenEnds : ShareSeen → ShareSeen → Reset → Result LeafView StoreFault → UserState → UserState → Answer → Type 0
+abbrev pub SeenEnds : ShareSeen → ShareSeen → Reset → Result LeafView StoreFault → UserState → UserState → Answer
+    → Type 0
 SeenEnds mid new reset (Ok view) before after answer = ResetEnds mid new reset view before after answer
 SeenEnds mid new reset (Err fault) before after answer =
     (new ≡ mid) × (after ≡ before) × IsRefusal fault answer
@@ -62,3 +71,18 @@ pub record ResetHeld (old new : ShareSeen) (reset : Reset) (before after : UserS
   pub looks : Looks old mid (IsErrOf view faults.Failed) 1 (TellsView before.account reset.tree view)
   pub only : IfErr view IsLookFault
   pub ends : SeenEnds mid new reset view before after answer
+
+-- What a reset of the label's PIN made under the session's main key.
+pub record IsResetUnder (token : Token) (label : Bytes) (state : UserState) (reset : Reset) : Type 0 where
+  pub main : Bytes
+  pub main_is : main_in state.sessions.kept token ≡ Some main
+  pub made : IsResetMade state.stored label main reset
+  pub named : IsResetNamed state.stored state.account label reset
+
+-- What a reset does where the tree isn't lost: nothing, for want of memory or of the PIN's reset secret, or the leaf of
+-- the label's PIN was looked at and reset.
+abbrev pub ResetsLeaf : ShareSeen → ShareSeen → Token → Bytes → UserState → UserState → Answer → Type 0
+ResetsLeaf old new token label before after answer =
+    ((new ≡ old) × (after ≡ before)
+    × ((answer ≡ answers.NoMemory) ⊎ (answer ≡ answers.Damaged (stash_name before.account))))
+    ⊎ ((reset : Reset) × IsResetUnder token label before reset × ResetHeld old new reset before after answer)

@@ -4,7 +4,9 @@ use Rattle.std.specs.FinMap.{get}
 use Rattle.account_machine.specs.Effect.{proved_end}
 use Rattle.account_machine.specs.declared.answer.Answer.{Answer}
 use Rattle.account_machine.specs.declared.answer.Answer.TheVariants as answers
-use Rattle.auth_session.specs.Table.{edit_at, proved_kept}
+use Rattle.account_machine.specs.Sessions.{place_of}
+use Rattle.account_machine.specs.declared.session.Token.{Token}
+use Rattle.auth_session.specs.Table.{sessions_in, edit_at, proved_kept}
 use Rattle.auth_session.specs.declared.table.Kept.{Kept}
 use Rattle.factor_files.specs.declared.factor.FactorRecord.{FactorRecord}
 use Rattle.scrypt_kdf.specs.Derive.{derive}
@@ -31,8 +33,8 @@ use Rattle.turn_secrets.specs.Listing.{Looks}
 use Rattle.turn_pins.specs.Looking.{TellsView, IsLookFault, IsRefusal}
 use Rattle.turn_pins.specs.declared.trial.Trial.{Trial}
 
--- What the try of the label's PIN needs: what is derived of the secret with the record's salt and cost, the leaf's label,
--- and the PIN's block with what it is bound to.
+-- What the try of the label's PIN needs: what is derived of the secret with the record's salt and cost, the leaf's
+-- label, and the PIN's block with what it is bound to.
 pub record IsTrial (stored : Stored) (label secret : Bytes) (trial : Trial) : Type 0 where
   pub label_is : trial.label ≡ label
   pub leaf : (row : FactorRecord) → get stored.factors label ≡ Some row → row.leaf ≡ Some trial.tree
@@ -96,3 +98,11 @@ pub record TryHeld (old new : ShareSeen) (trial : Trial) (at : ℕ) (before afte
   pub looks : Looks old mid (IsErrOf view faults.Failed) 1 (TellsView before.account trial.tree view)
   pub only : IfErr view IsLookFault
   pub ends : SeenTried mid new trial view at before after answer
+
+-- What a try does where the tree isn't lost: nothing for want of memory, or the leaf of the label's PIN was looked at and
+-- tried with what is derived of the secret.
+abbrev pub TriesLeaf : ShareSeen → ShareSeen → Token → Bytes → Bytes → UserState → UserState → Answer → Type 0
+TriesLeaf old new token label secret before after answer =
+    ((new ≡ old) × (after ≡ before) × (answer ≡ answers.NoMemory))
+    ⊎ ((trial : Trial) × IsTrial before.stored label secret trial
+    × TryHeld old new trial (place_of token (sessions_in before.sessions.kept)) before after answer)

@@ -7,7 +7,7 @@ ghost use Rattle.secret_stash.specs.Keys.{opened_payload};
 ghost use Rattle.stored_home.specs.Loaded.{HasFactors};
 ghost use Rattle.pin_edits.specs.Faults.{IsStashFault};
 ghost use Rattle.pin_edits.specs.Resets.{IsResetOf};
-ghost use Rattle.turn_pins.specs.Resetting.{IsResetMade};
+ghost use Rattle.turn_pins.specs.Resetting.{IsResetMade, IsResetNamed};
 
 use ct_bytes::Text;
 use factor_files::FactorRecord;
@@ -91,6 +91,7 @@ pub(crate) fn prepare(
     requires known { IsSomeAnd (get stored.now.factors label.now) (λ row. IsSome row.leaf) }
     ensures value { IfOk result (IsResetMade stored.now label.now main.now) }
     ensures label { IfOk result (λ made. made.label ≡ label.now) }
+    ensures named { IfOk result (IsResetNamed stored.now account.now label.now) }
     ensures only { IfErr result (IsStashFault account.now) }
 {
     let Some(stash) = &stored.stash else {

@@ -13,7 +13,7 @@ ghost use Rattle.turn_rows.specs.Due.{IsReady, IsDue};
 ghost use Rattle.turn_edits.specs.Endings.{KeepsState, IsEnded, doubt_of};
 ghost use Rattle.turn_pins.specs.Endings.{TellsTree};
 ghost use Rattle.turn_pins.specs.Looking.{IsLeafDoubt};
-ghost use Rattle.turn_pins.specs.Resetting.{IsToldAnswer, ResetEnds, ResetHeld};
+ghost use Rattle.turn_pins.specs.Resetting.{IsToldAnswer, ResetEnds, ResetHeld, ResetsLeaf};
 
 use crate::keys::main_key;
 use crate::looking::{damaged, fault_told, look, refused};
@@ -82,12 +82,7 @@ fn reset_seen<S: Share>(
 }
 
 // Looks at the leaf, and resets it.
-fn reset_held<S: Share>(
-    alloc: Global,
-    state: &mut UserState,
-    share: &mut S,
-    reset: Reset,
-) -> Answer
+fn reset_held<S: Share>(alloc: Global, state: &mut UserState, share: &mut S, reset: Reset) -> Answer
     requires plain { IsTrue (is_account_name state.old.account) }
     requires spare { 2 ≤ (S.seen share.old).spare }
     requires moment { state.old.last < 2 ^ 40 }
@@ -106,8 +101,8 @@ fn reset_held<S: Share>(
 /// The leaf is looked at and then reset, in two device steps. `StorageFault` where the reset failed: then what the leaf
 /// showed is kept, which tells whether it was reset. `NoMemory` before the reset, also where the look failed. `Damaged`
 /// with the stash's name where its payload doesn't open or lacks the PIN's reset secret, with the leaf's, and with the
-/// record's where the leaf has another reset secret. `TreeLost` exactly where the tree of leaves was lost when the account
-/// was loaded, with its roots and no step made.
+/// record's where the leaf has another reset secret. `TreeLost` exactly where the tree of leaves was lost when the
+/// account was loaded, with its roots and no step made.
 pub fn reset_pin<S: Share>(
     alloc: Global,
     state: &mut UserState,
@@ -129,6 +124,8 @@ pub fn reset_pin<S: Share>(
     ensures tellable { IsTellable state.new.doubt state.new }
     ensures generator { state.new.generator ≡ state.old.generator }
     ensures stored { state.new.stored ≡ state.old.stored }
+    ensures resets { state.old.stored.lost ≡ None → ResetsLeaf (S.seen share.old) (S.seen share.new) token.now label.now
+        state.old state.new result }
     ensures tree { TellsTree state.old.stored.lost result }
     ensures still { IsSome state.old.stored.lost → S.seen share.new ≡ S.seen share.old }
     ensures goes { S.goes share.old share.new }

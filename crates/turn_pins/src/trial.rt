@@ -89,12 +89,7 @@ fn bound(mut extra: Blob, account: &str, label: &str, edition: u64) -> Result<Bl
 }
 
 // What the block of an account's label is bound to.
-fn extra_of(
-    alloc: Global,
-    account: &str,
-    label: &str,
-    block: &Block,
-) -> Result<Blob, NoMemory>
+fn extra_of(alloc: Global, account: &str, label: &str, block: &Block) -> Result<Blob, NoMemory>
     requires account { length account.now < 256 }
     requires label { length label.now < 256 }
     ensures value { IfOk result (λ extra. extra ≡ block_extra account.now label.now block.now) }

@@ -17,7 +17,7 @@ ghost use Rattle.turn_secrets.specs.Checked.{IsOfSecret};
 ghost use Rattle.turn_pins.specs.Endings.{TellsTree};
 ghost use Rattle.turn_pins.specs.Looking.{IsLeafDoubt};
 ghost use Rattle.turn_pins.specs.Pins.{IsPinAt};
-ghost use Rattle.turn_pins.specs.Trying.{RightEnds, TriedEnds, TryEnds, TryHeld};
+ghost use Rattle.turn_pins.specs.Trying.{RightEnds, TriedEnds, TryEnds, TryHeld, TriesLeaf};
 
 use crate::looking::{damaged, fault_told, look, refused};
 use crate::resetting::told;
@@ -35,13 +35,7 @@ use user_state::{Doubt, UserState};
 
 // Authenticates the session there with the main key that the PIN's block opens to. Where it doesn't open the stash is
 // damaged.
-fn right(
-    alloc: Global,
-    state: &mut UserState,
-    at: usize,
-    trial: &Trial,
-    high: &Hash,
-) -> Answer
+fn right(alloc: Global, state: &mut UserState, at: usize, trial: &Trial, high: &Hash) -> Answer
     requires plain { IsTrue (is_account_name state.old.account) }
     requires moment { state.old.last < 2 ^ 40 }
     requires inside { at < length state.old.sessions.kept }
@@ -156,9 +150,10 @@ fn try_held<S: Share>(
 ///
 /// A derived key is used where its salt and its cost are those of the PIN's record; else the key is derived here. The
 /// leaf is looked at and then tried, in two device steps. The answers:
-/// - `Wrong`, `Delayed` with the seconds that are left, and `Locked` as the leaf answered. After a wrong secret the PIN's
-///   count is one higher.
-/// - `OkEnds` with the session's end where the leaf took the secret, and its block opens: the session keeps the main key.
+/// - `Wrong`, `Delayed` with the seconds that are left, and `Locked` as the leaf answered. After a wrong secret the
+///   PIN's count is one higher.
+/// - `OkEnds` with the session's end where the leaf took the secret, and the PIN's block opens: the session keeps the
+///   main key.
 /// - `StorageFault` where the try failed: then what the leaf showed is kept, which tells whether it was tried.
 /// - `NoMemory` before the try, also where the look failed.
 /// - `Damaged` with the leaf's name, and with the stash's where the PIN's block doesn't open though the leaf took the
@@ -189,6 +184,8 @@ pub fn authenticate_pin<S: Share>(
     ensures tellable { IsTellable state.new.doubt state.new }
     ensures generator { state.new.generator ≡ state.old.generator }
     ensures stored { state.new.stored ≡ state.old.stored }
+    ensures tries { state.old.stored.lost ≡ None → TriesLeaf (S.seen share.old) (S.seen share.new) token.now label.now
+        secret.now state.old state.new result }
     ensures tree { TellsTree state.old.stored.lost result }
     ensures still { IsSome state.old.stored.lost → S.seen share.new ≡ S.seen share.old }
     ensures goes { S.goes share.old share.new }

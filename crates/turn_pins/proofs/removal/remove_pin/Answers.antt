@@ -76,7 +76,8 @@ returns-clause-caused g c =
     let call = c.remove_pin-removed in
     let old = g.S.Share.seen c.args.share.now in
     let new = g.S.Share.seen call.new.share in
-    subst (IsPinCaused old new c.args.state.now.stored.lost (new ≡ old) (λ (name : Bytes). ⊥)) (sym c.told.ensures.answer)
+    subst (IsPinCaused old new c.args.state.now.stored.lost (new ≡ old) (λ (name : Bytes). ⊥))
+    (sym c.told.ensures.answer)
     (pin_caused old new c.args.state.now.account c.args.state.now.stored call.new.stored
     (RemovesFactor c.args.label.now) call.result (edits_at c.as_str.ensures.value call.ensures.edits)
     call.ensures.only call.ensures.calm call.ensures.tree call.ensures.still)

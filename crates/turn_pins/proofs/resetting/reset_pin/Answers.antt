@@ -1,14 +1,16 @@
-use Rattle.std.proofs.Common.{◌≡◌, ℕ, List, None, refl, sym, ap, ◌∙◌, subst, is_some, true≢false}
+use Rattle.std.proofs.Common.{ℕ, List, sym, ap, ◌∙◌, subst, inl, inr, is_some, true≢false, refl}
 use Rattle.account_machine.specs.declared.request.Request.TheVariants.{ResetPin}
 use Rattle.account_machine.specs.declared.request.Turn.TheVariants.{Act}
 use Rattle.pin_edits.specs.Faults.{IsStashFault}
+use Rattle.record_names.specs.Names.{factor_name}
+use Rattle.stored_home.proofs.MapLemmas.{not_None}
 use Rattle.user_state.specs.Sound.{IsSound}
 use Rattle.user_state.specs.declared.state.UserState.{UserState}
 use Rattle.turn_edits.proofs.EditGiven.{stood_given}
 use Rattle.turn_secrets.proofs.Sounds.{sound_doubted}
 use Rattle.turn_pins.proofs.LoadedPins.{home_there, label_is, its_tree, leaf_known}
 use Rattle.turn_pins.proofs.PinTurns.{lost_given}
-use Rattle.turn_pins.proofs.PinsSetBack.{reset_stash, reset_main, reset_named, reset_row, held_given, held_after, stash_stands, none_of}
+use Rattle.turn_pins.proofs.PinsSetBack.{reset_stash, reset_main, reset_named, reset_row, held_given, held_after, stash_stands, stash_says, none_of}
 use Rattle.turn_pins.proofs.resetting.reset_pin.Goals as goal
 
 -- the tree is lost
@@ -75,8 +77,8 @@ returns-in-Ok-clause-given g c = λ account.
 pub returns-in-Ok-clause-sound : goal.returns-in-Ok-clause-sound
 returns-in-Ok-clause-sound g c =
     let before = c.args.state.now in
-    let after = held_after (g.S.Share.seen c.args.share.now) (g.S.Share.seen c.reset_held.new.share) c.in-Ok.reset before
-    c.reset_held.new.state c.reset_held.result c.reset_held.ensures.held in
+    let after = held_after (g.S.Share.seen c.args.share.now) (g.S.Share.seen c.reset_held.new.share) c.in-Ok.reset
+    before c.reset_held.new.state c.reset_held.result c.reset_held.ensures.held in
     subst (λ (s : UserState). IsSound s) (sym after.1)
     (sound_doubted before c.requires.sound after.0 before.generator)
 
@@ -89,3 +91,29 @@ returns-in-Err-clause-given g c = λ account.
     (stash_stands before.account c.in-Err.fault c.refused.result
     (subst (λ (n : List ℕ). IsStashFault n c.in-Err.fault) c.as_str.ensures.value c.in-Err.ensures.only)
     c.refused.ensures) (g.S.Share.seen c.args.share.now)
+
+-- what was made
+pub returns-in-Some-clause-resets : goal.returns-in-Some-clause-resets
+returns-in-Some-clause-resets g c = λ none. absurd (not_None c.in-Some.tree (sym c.in-Some.is ∙ none))
+
+pub returns-in-Ok-clause-resets : goal.returns-in-Ok-clause-resets
+returns-in-Ok-clause-resets g c = λ none. inr (
+  c.in-Ok.reset,
+  record {
+    main = c.in-Some-main_key.main;
+    main_is = sym c.main_key.ensures ∙ c.in-Some-main_key.is;
+    made = c.in-Ok.ensures.value;
+    named = λ row at. c.in-Ok.ensures.named row at
+        ∙ ap (λ (n : List ℕ). factor_name n c.args.label.now row.edition) c.as_str.ensures.value;
+  },
+  c.reset_held.ensures.held,
+)
+
+pub returns-in-Err-clause-resets : goal.returns-in-Err-clause-resets
+returns-in-Err-clause-resets g c = λ none. inl (
+  refl,
+  refl,
+  stash_says c.args.state.now.account c.in-Err.fault c.refused.result
+      (subst (λ (n : List ℕ). IsStashFault n c.in-Err.fault) c.as_str.ensures.value c.in-Err.ensures.only)
+      c.refused.ensures,
+)

@@ -1,10 +1,12 @@
-use Rattle.std.proofs.Common.{◌≡◌, ℕ, List, Option, None, Some, refl, sym, ap, ◌∙◌, subst, is_some}
+use Rattle.std.proofs.Common.{Option, refl, sym, ap, ◌∙◌, subst, is_some, inl, inr, ℕ}
 use Rattle.account_machine.specs.declared.request.Request.TheVariants.{Authenticate}
 use Rattle.account_machine.specs.declared.request.Turn.TheVariants.{Act}
 use Rattle.stored_home.specs.declared.stored.LostTree.{LostTree}
 use Rattle.turn_rows.proofs.Quiet.{starved_given}
+use Rattle.stored_home.proofs.MapLemmas.{not_None}
 use Rattle.turn_pins.specs.Endings.{TellsTree}
-use Rattle.turn_pins.proofs.LoadedPins.{label_is, its_tree, block_both, row_known}
+use Rattle.turn_pins.specs.Trying.{TryHeld}
+use Rattle.turn_pins.proofs.LoadedPins.{label_is, block_both, row_known}
 use Rattle.turn_pins.proofs.PinEnds.{held_sound, held_kept}
 use Rattle.turn_pins.proofs.PinTurns.{lost_given}
 use Rattle.turn_pins.proofs.PinsSetBack.{none_of}
@@ -126,3 +128,18 @@ returns-in-Err-clause-given g c = λ account.
     starved_given c.args.state.now c.requires.ready
     (Act (Authenticate account c.args.token.now c.args.label.now c.args.secret.now)) tt
     (g.S.Share.seen c.args.share.now)
+
+-- what was made
+pub returns-in-Some-clause-tries : goal.returns-in-Some-clause-tries
+returns-in-Some-clause-tries g c = λ none. absurd (not_None c.in-Some.tree (sym c.in-Some.is ∙ none))
+
+pub returns-in-Ok-clause-tries : goal.returns-in-Ok-clause-tries
+returns-in-Ok-clause-tries g c = λ none. inr (
+  c.in-Ok.trial,
+  c.in-Ok.ensures.trial,
+  subst (λ (p : ℕ). TryHeld (g.S.Share.seen c.args.share.now) (g.S.Share.seen c.try_held.new.share) c.in-Ok.trial p
+      c.args.state.now c.try_held.new.state c.try_held.result) c.in-Some-place.ensures.some.0 c.try_held.ensures.held,
+)
+
+pub returns-in-Err-clause-tries : goal.returns-in-Err-clause-tries
+returns-in-Err-clause-tries g c = λ none. inl (refl, refl, refl)
