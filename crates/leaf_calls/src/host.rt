@@ -5,6 +5,7 @@ use pw_chip::Words;
 use pw_path::Label;
 
 /// A chip's words and the tree of its leaves, as the last call left them whose writes were done.
+#[derive(Drop)]
 pub struct ChipHost {
     pub words: Words,
     pub tree: Tree,
