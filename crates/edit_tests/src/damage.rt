@@ -261,6 +261,14 @@ fn turned(alloc: Global, bytes: &[u8]) -> Result<Vec<u8>, test::Fail> {
     Ok(other)
 }
 
+// The record of a vault file of four bytes has 33.
+fn check_size(whole: &[u8]) -> Outcome {
+    if whole.len() != 33 {
+        return Err(test::Fail::new("the record has another size"));
+    }
+    Ok(())
+}
+
 // The first 28 bytes of a record.
 fn cut(whole: &[u8]) -> Result<&[u8], test::Fail> {
     if whole.len() < 28 {
@@ -272,6 +280,7 @@ fn cut(whole: &[u8]) -> Result<&[u8], test::Fail> {
 // Whatever the record of the vault file `list` becomes is read so; it was this one.
 fn check_files(alloc: Global, share: &mut MemShare, record: Blob) -> Outcome {
     let whole = record.as_slice();
+    check_size(whole)?;
     let other = turned(alloc, whole)?;
     let short = cut(whole)?;
     let damaged = "ann.file.6c697374 is damaged";
