@@ -1,6 +1,6 @@
 //! The table.
 
-ghost use Rattle.std.specs.Prelude.{◌≡◌, ◌≤◌, IfOk, None, Some, option_copied};
+ghost use Rattle.std.specs.Prelude.{◌≡◌, ℕ, ◌≤◌, IfOk, None, Some, option_copied};
 ghost use Rattle.leaf_table.specs.Rows.{row_in, with_row, no_rows, rows_below, IsLeastRow};
 
 use crate::rows::{PLACES, Row, clear_rows, count_rows, least_row};
@@ -40,7 +40,9 @@ impl LeafTable {
 
     /// The record of a label, and `None` where it has none.
     pub fn get(&self, label: Label) -> Option<&[u8; LEAF_BYTES]>
-        ensures { option_copied result ≡ row_in self.now label }
+        ensures value { option_copied result ≡ row_in self.now label }
+        // No number past the labels has one.
+        ensures past { (i : ℕ) → 16384 ≤ i → row_in self.now i ≡ None }
     {
         self.rows[label.number() as usize].as_ref()
     }
