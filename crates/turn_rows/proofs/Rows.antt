@@ -50,6 +50,24 @@ pub record FitsNext (after : UserState) (contents : Contents) (next : User) (key
   pub settled : IsSettled after contents next
   pub has_keys : HasKeys after keys
 
+-- the end of the token's session, once it is moved
+pub moved_end : (before : UserState) (at seconds ends : ℕ) (token : Token) → at ≡ place_of token (sessions_in before.sessions.kept)
+    → option_map (λ (k : Kept). extended_end seconds before.last k.session) (slice_get before.sessions.kept at)
+    ≡ Some ends
+    → option_map (extended_end seconds before.last) (session_at (sessions_in before.sessions.kept) token) ≡ Some ends
+moved_end before at seconds ends token place read =
+    ap (option_map (extended_end seconds before.last)) (at_its_place token before.sessions.kept)
+    ∙ mapped_twice (slice_get before.sessions.kept (place_of token (sessions_in before.sessions.kept)))
+    ∙ ap (λ p. option_map (λ (k : Kept). extended_end seconds before.last k.session)
+    (slice_get before.sessions.kept p)) (sym place)
+    ∙ read
+  where
+    mapped_twice : (o : Option Kept)
+        → option_map (extended_end seconds before.last) (option_map (λ (k : Kept). k.session) o)
+        ≡ option_map (λ (k : Kept). extended_end seconds before.last k.session) o
+    mapped_twice None = refl
+    mapped_twice (Some k) = refl
+
 module _ (before : UserState) (ready : IsReady before) (share : ShareSeen) where
   -- a row without steps, from its effect on the user and what it keeps
   row_given : (after : UserState) (turn : Turn) (tail : Bytes) (answer : Answer) (next : User → User)
@@ -209,24 +227,6 @@ module _ (before : UserState) (ready : IsReady before) (share : ShareSeen) where
         },
       ))
 
-  -- the end of the token's session, once it is moved
-  moved_end : (at seconds ends : ℕ) (token : Token) → at ≡ place_of token (sessions_in before.sessions.kept)
-      → option_map (λ (k : Kept). extended_end seconds before.last k.session) (slice_get before.sessions.kept at)
-      ≡ Some ends
-      → option_map (extended_end seconds before.last) (session_at (sessions_in before.sessions.kept) token) ≡ Some ends
-  moved_end at seconds ends token place read =
-      ap (option_map (extended_end seconds before.last)) (at_its_place token before.sessions.kept)
-      ∙ mapped_twice (slice_get before.sessions.kept (place_of token (sessions_in before.sessions.kept)))
-      ∙ ap (λ p. option_map (λ (k : Kept). extended_end seconds before.last k.session)
-      (slice_get before.sessions.kept p)) (sym place)
-      ∙ read
-    where
-      mapped_twice : (o : Option Kept)
-          → option_map (extended_end seconds before.last) (option_map (λ (k : Kept). k.session) o)
-          ≡ option_map (λ (k : Kept). extended_end seconds before.last k.session) o
-      mapped_twice None = refl
-      mapped_twice (Some k) = refl
-
   -- the effect of a session that is found
   extended_found : (user : User) (token : Token) (seconds ends : ℕ) (o : Option Session)
       → option_map (extended_end seconds user.last) o ≡ Some ends
@@ -275,7 +275,7 @@ module _ (before : UserState) (ready : IsReady before) (share : ShareSeen) where
         extended_found user token seconds ends (session_at user.sessions token)
             (subst (λ (pair : List Session × ℕ). option_map (extended_end seconds pair.1) (session_at pair.0 token)
             ≡ Some ends)
-            (λ i. (f.sessions i, f.last i)) (moved_end at seconds ends token place read)),
+            (λ i. (f.sessions i, f.last i)) (moved_end before at seconds ends token place read)),
         record {
           sessions = ap (λ p. sessions_in (edit_at (extended_kept seconds before.last) p before.sessions.kept)) place
               ∙ changed-edit_at token (extended_kept seconds before.last)

@@ -1,5 +1,5 @@
 -- Rows on sessions and on the mount leave a sound state.
-use Rattle.std.proofs.Common.{◌≡◌, ℕ, List, refl, false}
+use Rattle.std.proofs.Common.{ℕ, List, refl}
 use Rattle.std.specs.Prelude.{None}
 use Rattle.std.specs.List.{AllByRecursion, remove}
 use Rattle.account_machine.specs.declared.session.Intent.{Intent}

@@ -1,10 +1,13 @@
 //! Looks, and refusals.
 
-ghost use Rattle.std.specs.Prelude.{◌≡◌, ℕ, List, IfSome, IfNone, None};
+ghost use Rattle.std.specs.Prelude.{◌≡◌, ℕ, List, IfSome, IfNone, None, option_map};
+ghost use Rattle.account_machine.specs.Answers.{answer_of};
+ghost use Rattle.account_machine.specs.Row.{first_refusal, turn_refusals};
 ghost use Rattle.account_machine.specs.declared.answer.Answer.TheVariants as answers;
 ghost use Rattle.account_machine.specs.declared.request.Turn.TheVariants.{Look};
 ghost use Rattle.random_values.specs.Stretches.{moved};
 ghost use Rattle.share_api.specs.Seen.{ShareSeen};
+ghost use Rattle.user_state.specs.Outlines.{outline_in};
 ghost use Rattle.user_state.specs.Turns.{IsGiven};
 ghost use Rattle.turn_rows.specs.Due.{IsReady, IsDue};
 ghost use Rattle.turn_rows.specs.Looks.{seen_of};
@@ -19,6 +22,8 @@ pub fn refuse(state: &UserState, turn: &Turn) -> Option<Answer>
     ensures refused { IfSome result (λ answer. (share : ShareSeen)
         → IsGiven share share state.now state.now turn.now answer) }
     ensures due { IfNone result (IsDue state.now turn.now) }
+    ensures exact { result ≡ option_map answer_of
+        (first_refusal (turn_refusals (outline_in state.now) turn.now state.now.last)) }
 {
     match turn_refusal(state, turn, state.last) {
         Some(refused) => Some(refused.answer()),

@@ -1,14 +1,16 @@
 //! Sessions are started, moved on and ended.
 
-ghost use Rattle.std.specs.Prelude.{◌≡◌, ◌+◌, ℕ, List};
+ghost use Rattle.std.specs.Prelude.{◌≡◌, ◌+◌, ℕ, List, Some, option_map};
 ghost use Rattle.account_machine.specs.declared.answer.Answer.TheVariants as answers;
 ghost use Rattle.account_machine.specs.declared.request.Request.TheVariants.{StartSession, ExtendSession, EndSession};
 ghost use Rattle.account_machine.specs.declared.request.Turn.TheVariants.{Act};
 ghost use Rattle.random_values.specs.Stretches.{moved, stretch};
 ghost use Rattle.share_api.specs.Seen.{ShareSeen};
 ghost use Rattle.user_state.specs.Sound.{IsSound};
+ghost use Rattle.user_state.specs.Outlines.{outline_in};
 ghost use Rattle.user_state.specs.Turns.{IsGiven};
 ghost use Rattle.turn_rows.specs.Due.{IsReady, IsDue};
+ghost use Rattle.turn_rows.specs.Ends.{ends_of};
 
 use account_machine::{Answer, Intent, Token};
 use user_state::UserState;
@@ -46,6 +48,9 @@ pub fn extend_session(state: &mut UserState, token: &Token, seconds: u64) -> Ans
     requires due { IsDue state.old (Act (ExtendSession state.old.account token.now seconds)) }
     ensures given { (share : ShareSeen) (account : List ℕ)
         → IsGiven share share state.old state.new (Act (ExtendSession account token.now seconds)) result }
+    ensures answer { option_map answers.OkEnds
+        (ends_of (outline_in state.old) (Act (ExtendSession state.old.account token.now seconds)) state.old.last)
+        ≡ Some result }
     ensures sound { IsSound state.old → IsSound state.new }
     ensures last { state.new.last ≡ state.old.last }
     ensures doubt { state.new.doubt ≡ state.old.doubt }
@@ -63,6 +68,7 @@ pub fn end_session(state: &mut UserState, token: &Token) -> Answer
     requires due { IsDue state.old (Act (EndSession state.old.account token.now)) }
     ensures given { (share : ShareSeen) (account : List ℕ)
         → IsGiven share share state.old state.new (Act (EndSession account token.now)) result }
+    ensures answer { result ≡ answers.Ok }
     ensures sound { IsSound state.old → IsSound state.new }
     ensures last { state.new.last ≡ state.old.last }
     ensures doubt { state.new.doubt ≡ state.old.doubt }
