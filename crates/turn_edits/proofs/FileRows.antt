@@ -1,6 +1,6 @@
 -- A vault file is put.
-use Rattle.std.proofs.Common.{◌≡◌, ◌≢◌, ℕ, ◌+◌, ◌<◌, ◌≤◌, Bool, true, false, cond, not, List, [], ◌∷◌, length, map, Option, None, Some, Result, IsOk, OnErr, refl, sym, ap, ◌∙◌, subst, is_some, true≢false, arith}
-use Rattle.std.specs.Prelude.{IsErrOf, IfErr, IfSome, IsSome, IsSomeAnd, nat_le, bytes_eq, ◌&&◌, ◌||◌}
+use Rattle.std.proofs.Common.{◌≡◌, ℕ, ◌<◌, ◌≤◌, Bool, true, false, not, List, [], ◌∷◌, length, Option, None, Some, Result, IsOk, OnErr, refl, sym, ap, ◌∙◌, subst, is_some, true≢false, arith}
+use Rattle.std.specs.Prelude.{IsErrOf, IfErr, IfSome, IsSomeAnd, nat_le, bytes_eq, ◌&&◌, ◌||◌}
 use Rattle.std.specs.List.{list_any}
 use Rattle.std.specs.Ordering.{eq_by_cmp}
 use Rattle.std.specs.FinMap.{FinMap, get, len, keys, entries, contains_key-keys, len-entries}

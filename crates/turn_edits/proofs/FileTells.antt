@@ -3,8 +3,7 @@ use Rattle.std.proofs.Common.{◌≡◌, ◌≢◌, Bool, Option, None, Some, Re
 use Rattle.std.specs.Prelude.{IfSome, IsSome}
 use Rattle.std.specs.Ordering.{nat_cmp}
 use Rattle.std.specs.Cmp.Lexicographic.{slice_cmp}
-use Rattle.std.specs.FinMap.{get, empty, get-empty}
-use Rattle.account_machine.specs.User.{no_home}
+use Rattle.std.specs.FinMap.{get, get-empty}
 use Rattle.account_machine.specs.declared.factor.Factor.{Factor}
 use Rattle.account_machine.specs.declared.user.Durable.{Durable}
 use Rattle.record_names.specs.Names.{AreParts, File, file_name}
@@ -15,7 +14,7 @@ use Rattle.stash_format.specs.declared.block.Block.{Block}
 use Rattle.stash_format.specs.declared.contents.Contents.{Contents as Stash}
 use Rattle.stored_home.specs.Bounds.{HasBounds}
 use Rattle.stored_home.specs.Changes.{durable_with_file}
-use Rattle.stored_home.specs.Holds.{Keys, Factors, HoldsUnder, HoldsBy, HoldsStash, IsBlockOf, IsFileOf}
+use Rattle.stored_home.specs.Holds.{Keys, HoldsUnder, HoldsBy, HoldsStash, IsBlockOf, IsFileOf}
 use Rattle.stored_home.specs.Matching.{Matches}
 use Rattle.stored_home.proofs.MapLemmas.{same_or_apart, put_same, not_None}
 use Rattle.user_state.specs.Fits.{TellsFile}

@@ -1,5 +1,5 @@
 -- A vault file is read.
-use Rattle.std.proofs.Common.{◌≡◌, Bool, true, false, not, [], Option, None, Some, Result, Ok, Err, refl, sym, ap, ◌∙◌, subst, inl, inr, ⊎_elim, is_some, true≢false}
+use Rattle.std.proofs.Common.{◌≡◌, ℕ, List, ◌∷◌, Bool, true, false, not, [], Option, None, Some, Result, Ok, Err, refl, sym, ap, ◌∙◌, subst, inl, inr, ⊎_elim, is_some, true≢false}
 use Rattle.std.specs.Prelude.{◌⊎◌, IfErr, IfSome, option_and_then}
 use Rattle.std.specs.FinMap.{get, keys}
 use Rattle.account_machine.specs.Effect.{gives}
@@ -13,9 +13,13 @@ use Rattle.account_machine.specs.declared.request.Request.TheVariants.{GetFile}
 use Rattle.account_machine.specs.declared.request.Turn.{Turn}
 use Rattle.account_machine.specs.declared.request.Turn.TheVariants.{Act}
 use Rattle.account_machine.specs.declared.user.User.{User}
-use Rattle.home_edits.specs.Files.{ReadsFile, IsReadFileFault}
+use Rattle.home_edits.specs.Files.{ReadsFile, IsReadFileFault, file_in}
+use Rattle.home_edits.proofs.CostLemmas.{same_rest}
+use Rattle.pw_types.specs.declared.era.Era.{Era}
 use Rattle.turn_edits.proofs.Tests.{test_at}
-use Rattle.share_api.specs.Contents.{Bytes, Contents}
+use Rattle.share_api.specs.Contents.{Bytes, Contents, Records, settled as once_begun}
+use Rattle.share_api.specs.Places.{steps_of}
+use Rattle.share_api.specs.declared.step.Step.{Step}
 use Rattle.share_api.specs.Folds.{Fold}
 use Rattle.share_api.specs.Seen.{ShareSeen, HasFailed}
 use Rattle.share_api.specs.Steps.{Does, DoesAmong}
@@ -33,10 +37,10 @@ use Rattle.user_state.specs.declared.state.UserState.{UserState}
 use Rattle.turn_rows.specs.Due.{IsReady, IsDue}
 use Rattle.turn_rows.proofs.Quiet.{row_by, as_user, settled_now, stands_settled}
 use Rattle.turn_edits.specs.Endings.{IsEnded, IsEditions}
-use Rattle.turn_edits.specs.Reads.{IsReadAnswer, IsReadCaused, doubt_of_read}
+use Rattle.turn_edits.specs.Reads.{IsReadAnswer, IsReadCaused, IsUnreadable, doubt_of_read}
 use Rattle.turn_edits.proofs.EndingLemmas.{made_failed}
 use Rattle.turn_edits.proofs.StandsIn.{IsStoodFor}
-use Rattle.record_names.specs.Names.{stash_name}
+use Rattle.record_names.specs.Names.{stash_name, file_name}
 use Rattle.turn_edits.proofs.FileRows.{has_name_there}
 use Rattle.turn_edits.proofs.Tallies.{held_tally}
 
@@ -254,38 +258,73 @@ read_ended before (Err (faults.TreeLost host chip)) none only answer is = absurd
 named_same : (one two : Bytes) → ◌≡◌ {A = Answer} (answers.Damaged one) (answers.Damaged two) → two ≡ one
 named_same one two e = let same : one ≡ two = cc in sym same
 
+-- records stay where the steps leave contents in which no leaf is in doubt
+records_stay : (era : Era) (steps : List Step)
+    → ((c new : Contents) → c.doubt ≡ None → Fold (Does era) c steps new → new ≡ c)
+    → (start end : Contents) → Fold (Does era) start steps end → end.records ≡ start.records
+records_stay era [] same start end fold = ap (λ (c : Contents). c.records) fold
+records_stay era (step ∷ steps) same start end fold =
+    ap (λ (c : Contents). c.records) (same (once_begun start) end refl (fold.0, fold.1, fold.2))
+
+-- a file that doesn't open is the damaged record
+unreadable : (old new : ShareSeen) (account name key : Bytes) (vault : Option Bytes) (r : Result Bytes StoreFault)
+    (reads : ReadsFile old new account key name r) → vault ≡ Some key → (named : Bytes)
+    → r ≡ Err (faults.Damaged named) → IsUnreadable old new account name vault named
+unreadable old new account name key vault r reads vault_is named damaged = record {
+  name_is = (reads.damaged named damaged).0;
+  key = key;
+  vault_is = vault_is;
+  shown = λ own is start end fold.
+      let same : own ≡ reads.runs.own = same_rest old.own own reads.runs.own (sym is ∙ reads.runs.own_is) in
+      let f : Fold (Does old.era) start reads.steps end = subst (λ (steps : List Step).
+      Fold (Does old.era) start steps end) (ap (λ (o : List (ℕ × Step)). steps_of o) same ∙ reads.runs.steps_are) fold
+      in
+      ap (λ (r : Records). file_in key account name (get r (file_name account name)))
+      (records_stay old.era reads.steps reads.same start end f)
+      ∙ (reads.damaged named damaged).1 start end f;
+}
+
 -- why it was answered so
-pub read_caused : (old new : ShareSeen) (account name vault : Bytes) (Broken : Type 0) (r : Result Bytes StoreFault)
-    → ReadsFile old new account vault name r → IfErr r IsReadFileFault → (answer : Answer) → IsReadAnswer r answer
-    → IsReadCaused old new account name Broken answer
-read_caused old new account name vault Broken (Ok bytes) reads only answer is = record {
+pub read_caused : (old new : ShareSeen) (account name key : Bytes) (vault : Option Bytes) (Broken : Type 0)
+    (r : Result Bytes StoreFault) → vault ≡ Some key
+    → ReadsFile old new account key name r → IfErr r IsReadFileFault → (answer : Answer) → IsReadAnswer r answer
+    → IsReadCaused old new account name vault Broken answer
+read_caused old new account name key vault Broken (Ok bytes) vault_is reads only answer is = record {
+  known = inl (bytes, is);
   fault = λ e. let z : ◌≡◌ {A = Answer} (answers.OkBytes bytes) answers.StorageFault = sym is ∙ e in absurd (cc z);
   damaged = λ named e. let z : ◌≡◌ {A = Answer} (answers.OkBytes bytes) (answers.Damaged named) = sym is ∙ e in
       absurd (cc z);
 }
-read_caused old new account name vault Broken (Err faults.Failed) reads only answer is = record {
+read_caused old new account name key vault Broken (Err faults.Failed) vault_is reads only answer is = record {
+  known = inr (inl is);
   fault = λ _. made_failed old new reads.steps reads.runs (reads.fails refl);
   damaged = λ named e. let z : ◌≡◌ {A = Answer} answers.StorageFault (answers.Damaged named) = sym is ∙ e in
       absurd (cc z);
 }
-read_caused old new account name vault Broken (Err (faults.Damaged broken)) reads only answer is = record {
+read_caused old new account name key vault Broken (Err (faults.Damaged broken)) vault_is reads only answer is = record {
+  known = ⊎_elim (λ d. inr (inr (inr (broken, d)))) (λ m. inr (inr (inl m))) is;
   fault = λ e. absurd (⊎_elim
       (λ d. let z : ◌≡◌ {A = Answer} (answers.Damaged broken) answers.StorageFault = sym d ∙ e in cc z)
       (λ d. let z : ◌≡◌ {A = Answer} answers.NoMemory answers.StorageFault = sym d ∙ e in cc z) is);
   damaged = λ named e. ⊎_elim
-      (λ d. inr (named_same broken named (sym d ∙ e) ∙ (reads.damaged broken refl).0))
+      (λ d. inr (unreadable old new account name key vault (Err (faults.Damaged broken)) reads vault_is named
+      (ap (λ (n : Bytes). Err (faults.Damaged n)) (sym (named_same broken named (sym d ∙ e))))))
       (λ d. let z : ◌≡◌ {A = Answer} answers.NoMemory (answers.Damaged named) = sym d ∙ e in absurd (cc z)) is;
 }
-read_caused old new account name vault Broken (Err faults.NoMemory) reads only answer is = record {
+read_caused old new account name key vault Broken (Err faults.NoMemory) vault_is reads only answer is = record {
+  known = inr (inr (inl is));
   fault = λ e. let z : ◌≡◌ {A = Answer} answers.NoMemory answers.StorageFault = sym is ∙ e in absurd (cc z);
   damaged = λ named e. let z : ◌≡◌ {A = Answer} answers.NoMemory (answers.Damaged named) = sym is ∙ e in absurd (cc z);
 }
-read_caused old new account name vault Broken (Err (faults.TreeLost host chip)) reads only answer is = absurd only
+read_caused old new account name key vault Broken (Err (faults.TreeLost host chip)) vault_is reads only answer is =
+    absurd only
 
 -- a damaged stash, before any step
-pub stood_read_caused : (share : ShareSeen) (account name : Bytes) (Broken : Type 0) (answer : Answer)
-    → IsStoodFor account answer → Broken → IsReadCaused share share account name Broken answer
-stood_read_caused share account name Broken answer is broken = record {
+pub stood_read_caused : (share : ShareSeen) (account name : Bytes) (vault : Option Bytes) (Broken : Type 0)
+    (answer : Answer) → IsStoodFor account answer → Broken
+    → IsReadCaused share share account name vault Broken answer
+stood_read_caused share account name vault Broken answer is broken = record {
+  known = ⊎_elim (λ d. inr (inr (inr (stash_name account, d)))) (λ m. inr (inr (inl m))) is;
   fault = λ e. absurd (⊎_elim
       (λ d. let z : ◌≡◌ {A = Answer} (answers.Damaged (stash_name account)) answers.StorageFault = sym d ∙ e in cc z)
       (λ d. let z : ◌≡◌ {A = Answer} answers.NoMemory answers.StorageFault = sym d ∙ e in cc z) is);

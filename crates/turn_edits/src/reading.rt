@@ -75,7 +75,7 @@ fn get_under<S: Share>(
     ensures generator { state.new.generator ≡ state.old.generator }
     ensures cost { PutsCost (S.seen share.old) (S.seen share.new) state.old.account state.old.cost }
     ensures caused { IsReadCaused (S.seen share.old) (S.seen share.new) state.old.account name.now
-        (LacksPayload state.old) result }
+        state.old.vault (LacksPayload state.old) result }
     ensures goes { S.goes share.old share.new }
 {
     let read = home_edits::get_file(alloc, share, state.account.as_str(), name.as_str(), vault);
@@ -107,7 +107,7 @@ pub fn get_file<S: Share>(
     ensures generator { state.new.generator ≡ state.old.generator }
     ensures cost { PutsCost (S.seen share.old) (S.seen share.new) state.old.account state.old.cost }
     ensures caused { IsReadCaused (S.seen share.old) (S.seen share.new) state.old.account name.now
-        (LacksPayload state.old) result }
+        state.old.vault (LacksPayload state.old) result }
     ensures goes { S.goes share.old share.new }
 {
     let Some(vault) = state.vault else {

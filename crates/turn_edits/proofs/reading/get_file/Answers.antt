@@ -36,7 +36,7 @@ returns-else-has_payload-clause-cost g c =
 pub returns-else-has_payload-clause-caused : goal.returns-else-has_payload-clause-caused
 returns-else-has_payload-clause-caused g c =
     stood_read_caused (g.S.Share.seen c.args.share.now) c.args.state.now.account c.args.name.now
-    (LacksPayload c.args.state.now) c.damaged_stash.result
+    c.args.state.now.vault (LacksPayload c.args.state.now) c.damaged_stash.result
     (subst (λ (n : List ℕ). IsStoodFor n c.damaged_stash.result) c.as_str.ensures.value c.damaged_stash.ensures)
     (record {
       mounted = read_mounted c.args.state.now c.args.state.now.account c.args.name.now c.requires.due;

@@ -43,7 +43,8 @@ returns-clause-cost g c =
 pub returns-clause-caused : goal.returns-clause-caused
 returns-clause-caused g c =
     read_caused (g.S.Share.seen c.args.share.now) (g.S.Share.seen c.get_file-read.new.share) c.args.state.now.account
-    c.args.name.now c.args.vault.now (LacksPayload c.args.state.now) c.get_file-read.result
+    c.args.name.now c.args.vault.now c.args.state.now.vault (LacksPayload c.args.state.now) c.get_file-read.result
+    c.requires.vault
     (reads_at c.as_str.ensures.value c.as_str-2.ensures.value c.get_file-read.ensures.reads)
     c.get_file-read.ensures.only c.read_told.result c.read_told.ensures.answer
 
