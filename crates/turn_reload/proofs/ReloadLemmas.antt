@@ -1,6 +1,7 @@
 -- Reloading, put together.
-use Rattle.std.proofs.Common.{◌≡◌, ◌+◌, ◌≤◌, List, [], ◌∷◌, ◌++◌, length, Option, None, Some, Result, Ok, Err, true, false, refl, sym, ap, ◌∙◌, subst, inl, inr, ⊎_elim, ◌⊎◌, IsOk, IsErr, is_some, true≢false, length-append, arith}
+use Rattle.std.proofs.Common.{◌≡◌, ◌+◌, ◌≤◌, Bool, List, [], ◌∷◌, ◌++◌, length, Option, None, Some, Result, Ok, Err, true, false, refl, sym, ap, ◌∙◌, subst, inl, inr, ⊎_elim, ◌⊎◌, IsOk, IsErr, is_some, true≢false, length-append, arith}
 use Rattle.std.specs.Prelude.{IsErrOf, IsTrue, IsSomeAnd}
+use Rattle.std.specs.List.{AllByRecursion}
 use Rattle.account_machine.specs.Step.{reload_of}
 use Rattle.account_machine.specs.declared.entry.Told.{Told}
 use Rattle.account_machine.specs.declared.entry.Told.TheVariants as told_as
@@ -10,9 +11,12 @@ use Rattle.record_names.specs.Names.{is_account_name}
 use Rattle.share_api.specs.Conditions.{IsOf}
 use Rattle.share_api.specs.Contents.{Bytes, Contents}
 use Rattle.share_api.specs.Folds.{Fold, Throughout}
-use Rattle.share_api.specs.Seen.{ShareSeen, HasFailed}
+use Rattle.share_api.specs.Seen.{ShareSeen}
 use Rattle.share_api.specs.Steps.{Does}
+use Rattle.share_api.specs.declared.step.Op.{Op}
+use Rattle.share_api.specs.declared.step.Op.TheVariants.{Do}
 use Rattle.share_api.specs.declared.step.Step.{Step}
+use Rattle.share_api.specs.declared.step.Write.TheVariants.{Put}
 use Rattle.share_api.proofs.RunLaws.{failed_either}
 use Rattle.share_api.proofs.FoldLaws.{fold_split, throughout_append, throughout_end}
 use Rattle.stored_home.specs.Holds.{Keys, HoldsUnder}
@@ -22,8 +26,9 @@ use Rattle.stored_home.specs.declared.fault.StoreFault.TheVariants as faults
 use Rattle.stored_home.specs.declared.stored.Stored.{Stored}
 use Rattle.stored_home.proofs.MapLemmas.{from_some}
 use Rattle.home_recovery.specs.Parts.{Serves}
-use Rattle.home_recovery.specs.Reading.{RunsOver, Reads}
-use Rattle.home_recovery.specs.Recovers.{Recovers, listed_first}
+use Rattle.home_recovery.specs.Damage.{IsDamaged}
+use Rattle.home_recovery.specs.Reading.{RunsOver, Reads, IsReadOp, AreReads}
+use Rattle.home_recovery.specs.Recovers.{Recovers, IsTidying, AreTidying, listed_first}
 use Rattle.home_recovery.specs.Told.{lost_tree, IsStepFault}
 use Rattle.home_recovery.proofs.CallLemmas.{same_fault}
 use Rattle.home_recovery.proofs.FewerLemmas.{HasFewer, fewer_tidying, fewer_reads}
@@ -37,7 +42,7 @@ use Rattle.user_state.specs.declared.state.Doubt.{Doubt}
 use Rattle.user_state.specs.declared.state.Doubt.TheVariants.{Editions, File as OfFile, Leaf as OfLeaf}
 use Rattle.user_state.specs.declared.state.UserState.{UserState}
 use Rattle.turn_reload.specs.Evidence.{CanTell, Says}
-use Rattle.turn_reload.specs.Reloads.{settled_with, IsUnsettledOver, IsReloaded, Reloads}
+use Rattle.turn_reload.specs.Reloads.{settled_with, IsUnsettledOver, IsReloaded, PutsNone, Reloads}
 use Rattle.turn_reload.proofs.EvidenceLemmas.{first_of, second_of, tells_fewer}
 
 -- ---- lists of steps
@@ -65,6 +70,34 @@ ok_no_err told e = true≢false (sym e)
 
 step_undamaged : (fault : StoreFault) (name : Bytes) → IsStepFault fault → fault ≡ faults.Damaged name → ⊥
 step_undamaged fault name only e = subst IsStepFault e only
+
+-- ---- nothing is put
+
+no_put_read : (op : Op) (name bytes : Bytes) → IsReadOp op → op ≡ Do (Put name bytes) → ⊥
+no_put_read op name bytes reads e = subst IsReadOp e reads
+
+puts_read : (steps : List Step) → AreReads steps → AllByRecursion PutsNone steps
+puts_read [] reads = tt
+puts_read (step ∷ steps) reads =
+    (λ name bytes e. no_put_read step.op name bytes reads.0 e, puts_read steps reads.1)
+
+puts_tidying : (lost : Bool) (account : Bytes) (stored : Stored) (steps : List Step)
+    → AreTidying lost account stored steps → AllByRecursion PutsNone steps
+puts_tidying lost account stored [] tidying = tt
+puts_tidying lost account stored (step ∷ steps) tidying =
+    (λ name bytes e. subst (IsTidying lost account stored) e tidying.0, puts_tidying lost account stored steps tidying.1)
+
+puts_append : (steps more : List Step) → AllByRecursion PutsNone steps → AllByRecursion PutsNone more
+    → AllByRecursion PutsNone (steps ++ more)
+puts_append [] more a b = b
+puts_append (step ∷ steps) more a b = (a.0, puts_append steps more a.1 b)
+
+puts_recovered : (old new : ShareSeen) (account : Bytes) (result : Result Stored StoreFault)
+    → (rec : Recovers old new account result) → AllByRecursion PutsNone rec.steps
+puts_recovered old new account result rec = ⊎_elim
+    (λ reads. puts_read rec.steps reads)
+    (λ t. puts_tidying (is_some old.lost) account t.stored rec.steps t.tidying)
+    rec.removes
 
 -- ---- what is asked for
 
@@ -164,6 +197,9 @@ module _ (old : ShareSeen) (before : UserState) (doubt : Doubt) (is : before.dou
     stays = λ _. refl;
     keeps = kept_account;
     sound = λ s. s;
+    puts = puts_recovered old new before.account (Err fault) rec;
+    damaged = λ name e contents c fold. subst (λ b. IsDamaged b c before.account name) (sym same_lost)
+        ((rec.damaged name (err_as fault (faults.Damaged name) e)).1 contents c fold);
     right = λ contents user held keys u.
         let held_all = rec.kept contents held keys (held_to contents held keys u.holds) in
         record {
@@ -244,6 +280,10 @@ module _ (old : ShareSeen) (before : UserState) (doubt : Doubt) (is : before.dou
     stays = λ _. refl;
     keeps = kept_account;
     sound = λ s. s;
+    puts = puts_append rec.steps look.steps (puts_recovered old mid before.account (Ok stored) rec)
+        (puts_read look.steps look.reads);
+    damaged = λ name e contents c fold.
+        absurd (step_undamaged fault name only (same_fault {A = Told} fault (faults.Damaged name) e));
     right = λ contents user held keys u.
         let all = held_all mid new stored rec (false ≡ true) failed P look contents held keys (held_to contents held keys u.holds) in
         record {
@@ -360,6 +400,9 @@ module _ (old : ShareSeen) (before : UserState) (doubt : Doubt) (is : before.dou
       stays = λ e. absurd (ok_no_err told e);
       keeps = record { account = refl; cost = refl; lost = rec.lost ∙ sym lost_is };
       sound = λ s. record { coherent = rec.coherent; least = s.least; most = s.most; keyed = s.keyed };
+      puts = puts_append rec.steps look.steps (puts_recovered old mid before.account (Ok stored) rec)
+          (puts_read look.steps look.reads);
+      damaged = λ name e contents c fold. absurd (told_no_fault told (faults.Damaged name) e);
       right = λ contents user held keys u.
           let all = held_all mid new stored rec (true ≡ true) failed SaysIt look contents held keys (held_to contents held keys u.holds) in
           record {

@@ -1,5 +1,6 @@
 -- What a reload does.
 use Rattle.std.specs.Prelude.{◌≡◌, ◌⊎◌, ◌+◌, ◌≤◌, List, [], None, Some, Result, Ok, Err, IfOk, IsOk, IsErr, IsErrOf, length}
+use Rattle.std.specs.List.{AllByRecursion}
 use Rattle.account_machine.specs.Step.{reload_of}
 use Rattle.account_machine.specs.declared.entry.Told.{Told}
 use Rattle.account_machine.specs.declared.entry.Told.TheVariants as told_as
@@ -9,11 +10,14 @@ use Rattle.share_api.specs.Contents.{Bytes, Contents}
 use Rattle.share_api.specs.Folds.{Fold, Throughout}
 use Rattle.share_api.specs.Seen.{ShareSeen, HasFailed}
 use Rattle.share_api.specs.Steps.{Does}
+use Rattle.share_api.specs.declared.step.Op.TheVariants.{Do}
 use Rattle.share_api.specs.declared.step.Step.{Step}
+use Rattle.share_api.specs.declared.step.Write.TheVariants.{Put}
 use Rattle.stored_home.specs.Holds.{Keys, HoldsUnder}
 use Rattle.stored_home.specs.declared.fault.StoreFault.{StoreFault}
 use Rattle.stored_home.specs.declared.fault.StoreFault.TheVariants as faults
 use Rattle.stored_home.specs.declared.stored.Stored.{Stored}
+use Rattle.home_recovery.specs.Damage.{IsDamaged}
 use Rattle.home_recovery.specs.Reading.{RunsOver}
 use Rattle.home_recovery.specs.Recovers.{listed_first}
 use Rattle.user_state.specs.Fits.{Fits, is_lost}
@@ -58,6 +62,10 @@ pub record ReloadsOver (old : ShareSeen) (steps : List Step) (before after : Use
   pub safe : (name : Bytes) (new : Contents) → Fold (Does old.era) contents steps new
       → IsErrOf result (faults.Damaged name) → ⊥
 
+-- the step puts no record
+abbrev pub PutsNone : Step → Type 0
+PutsNone step = (name bytes : Bytes) → step.op ≡ Do (Put name bytes) → ⊥
+
 -- The reload of an unsettled account, of whatever contents its steps fit.
 pub record Reloads (old new : ShareSeen) (before after : UserState) (result : Result Told StoreFault) : Type 0 where
   pub steps : List Step
@@ -72,6 +80,11 @@ pub record Reloads (old new : ShareSeen) (before after : UserState) (result : Re
   pub stays : IsErr result → after ≡ before
   pub keeps : KeepsAccount before after
   pub sound : IsSound before → IsSound after
+  -- nothing is put
+  pub puts : AllByRecursion PutsNone steps
+  -- what is told damaged is so, in whatever contents the steps lead to
+  pub damaged : (name : Bytes) → IsErrOf result (faults.Damaged name) → (contents new : Contents)
+      → Fold (Does old.era) contents steps new → IsDamaged (is_lost before) new before.account name
   pub right : (contents : Contents) (user : User) (held : Durable) (keys : Keys)
       → IsUnsettledOver before contents user held keys
       → ReloadsOver old steps before after result contents user held keys
