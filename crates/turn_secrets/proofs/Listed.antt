@@ -34,7 +34,7 @@ use Rattle.user_state.specs.declared.state.Doubt.TheVariants.{Editions}
 use Rattle.user_state.specs.declared.state.UserState.{UserState}
 use Rattle.turn_rows.specs.Due.{IsReady, IsDue}
 use Rattle.turn_rows.proofs.Quiet.{row_by, settled_now, as_user}
-use Rattle.turn_secrets.specs.Listing.{Looks, TellsLines, TellsList, FailsSo, after_list, line_in}
+use Rattle.turn_secrets.specs.Listing.{Looks, TellsLines, TellsList, FailsSo, IsListAnswer, after_list, line_in}
 use Rattle.turn_secrets.proofs.Lines.{lines_held, lines_lost}
 use Rattle.turn_secrets.proofs.Looking.{looks_as}
 use Rattle.turn_secrets.proofs.Sounds.{sound_doubted}
@@ -278,3 +278,12 @@ fails_sound before sound Failed after answer h =
 fails_sound before sound (Damaged name) after answer h = subst IsSound (sym h.1) sound
 fails_sound before sound NoMemory after answer h = subst IsSound (sym h.1) sound
 fails_sound before sound (TreeLost host chip) after answer h = absurd h
+
+-- and what a fault is answered with is one of the answers to a list
+pub fails_known : (before : UserState) (fault : StoreFault) (after : UserState) (answer : Answer)
+    → FailsSo before fault after answer → IsListAnswer answer
+fails_known before Failed after answer h = inr (inl h.0)
+fails_known before (Damaged name) after answer h =
+    ⊎_elim (λ d. inr (inr (inr (name, d)))) (λ m. inr (inr (inl m))) h.0
+fails_known before NoMemory after answer h = inr (inr (inl h.0))
+fails_known before (TreeLost host chip) after answer h = absurd h

@@ -118,6 +118,12 @@ IsListFault (TreeLost host chip) = ⊥
 
 -- ---- answers
 
+-- the answers to a list
+abbrev pub IsListAnswer : Answer → Type 0
+IsListAnswer answer =
+    ((lines : List FactorLine) × (answer ≡ answers.OkFactors lines)) ⊎ (answer ≡ answers.StorageFault)
+    ⊎ (answer ≡ answers.NoMemory) ⊎ ((name : Bytes) × (answer ≡ answers.Damaged name))
+
 -- what the answer to a list tells of contents
 abbrev pub TellsList : UserState → Answer → Contents → Type 0
 TellsList state (answers.OkFactors lines) contents =

@@ -3,6 +3,7 @@
 ghost use Rattle.std.specs.Prelude.{◌≡◌, ◌≤◌, List, ℕ, false, IsTrue, IsOk, IsErrOf, IfSome, IfErr, OnOk, OnErr};
 ghost use Rattle.std.specs.FinMap.{get};
 ghost use Rattle.record_names.specs.Names.{is_account_name};
+ghost use Rattle.home_edits.specs.Costs.{PutsCost};
 ghost use Rattle.home_edits.specs.Edits.{IsEditFault};
 ghost use Rattle.share_api.specs.Conditions.{IsOf};
 ghost use Rattle.stash_format.specs.Kept.{HasRows};
@@ -65,6 +66,7 @@ pub(crate) fn bind<S: Share>(
     requires spare { 1 ≤ (S.seen share.old).spare }
     ensures binds { Binds (S.seen share.old) (S.seen share.new) account.now stored.old stored.new
         label.now key.now main.now (IsOk result) (IsErrOf result StoreFault.Failed) }
+    ensures cost { (cost : ℕ) → PutsCost (S.seen share.old) (S.seen share.new) account.now cost }
     ensures coherent { IsCoherent account.now stored.new }
     ensures bound { OnOk result (IsBoundAt stored.new label.now) }
     ensures loaded { OnOk result (LoadsBound (is_unbound (block_in stored.old.stash label.now))

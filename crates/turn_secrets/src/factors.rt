@@ -12,7 +12,7 @@ ghost use Rattle.user_state.specs.Sound.{IsSound};
 ghost use Rattle.user_state.specs.Turns.{IsGiven};
 ghost use Rattle.turn_rows.specs.Due.{IsReady, IsDue};
 ghost use Rattle.turn_secrets.specs.Listing.{count_told, counted_leaf, Looks, TellsLook, TellsCount, TellsLine};
-ghost use Rattle.turn_secrets.specs.Listing.{TellsLines, IsListFault, TellsList, FailsSo, after_list};
+ghost use Rattle.turn_secrets.specs.Listing.{TellsLines, IsListFault, TellsList, FailsSo, IsListAnswer, after_list};
 
 use crate::damaged::damaged;
 use account_machine::{Answer, FactorLine, FactorLines, Kind};
@@ -200,6 +200,7 @@ pub fn list_factors<S: Share>(alloc: Global, state: &mut UserState, share: &mut 
     ensures sound { IsSound state.new }
     ensures looks { Looks (S.seen share.old) (S.seen share.new) (result ≡ answers.StorageFault)
         (len state.old.stored.factors) (TellsList state.old result) }
+    ensures known { IsListAnswer result }
     ensures after { state.new ≡ after_list result state.old }
     ensures goes { S.goes share.old share.new }
 {

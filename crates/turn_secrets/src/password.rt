@@ -6,6 +6,7 @@ ghost use Rattle.account_machine.specs.declared.request.Turn.TheVariants.{Act};
 ghost use Rattle.account_machine.specs.declared.session.Token.{Token as TokenSeen};
 ghost use Rattle.account_machine.specs.Sessions.{place_of};
 ghost use Rattle.auth_session.specs.Table.{sessions_in};
+ghost use Rattle.home_edits.specs.Costs.{PutsCost};
 ghost use Rattle.share_api.specs.Conditions.{IsOf};
 ghost use Rattle.user_state.specs.Fits.{is_lost};
 ghost use Rattle.user_state.specs.Sound.{IsSound};
@@ -52,6 +53,7 @@ pub fn authenticate_password<S: Share>(
     ensures given { (account : List ℕ) → IsGiven (S.seen share.old) (S.seen share.new) state.old state.new
         (Act (Authenticate account token.now label.now secret.now)) result }
     ensures sound { IsSound state.new }
+    ensures cost { (cost : ℕ) → PutsCost (S.seen share.old) (S.seen share.new) state.old.account cost }
     ensures answers { Answers (S.seen share.old) (S.seen share.new) token.now label.now secret.now
         state.old state.new result }
     ensures goes { S.goes share.old share.new }
@@ -89,6 +91,7 @@ fn prove<S: Share>(
         → IsGiven (S.seen share.old) (S.seen share.new) state.old state.new
         (Act (Authenticate account token label.now secret)) result }
     ensures sound { IsSound state.new }
+    ensures cost { (cost : ℕ) → PutsCost (S.seen share.old) (S.seen share.new) state.old.account cost }
     ensures answers { (token : TokenSeen) (secret : List ℕ)
         → at ≡ place_of token (sessions_in state.old.sessions.kept)
         → IsRight state.old.stored label.now secret key.now main.now

@@ -6,6 +6,7 @@ use Rattle.stored_home.specs.declared.fault.StoreFault.TheVariants as faults
 use Rattle.turn_secrets.specs.Binding.{is_unbound}
 use Rattle.turn_secrets.proofs.Bindings.{labelled, known_reseal, after_seal, coherent_seal, same_seal, bound_seal, binds_none, binds_edit, loads_as_was, loads_sealed, drawn_none, drawn_one}
 use Rattle.turn_secrets.proofs.Loading.{loads_password}
+use Rattle.home_edits.proofs.CostLemmas.{costs_none}
 use Rattle.home_edits.proofs.Edited.{ok_not_fault}
 use Rattle.turn_secrets.proofs.binding.bind.Goals as goal
 
@@ -37,6 +38,10 @@ pub returns-then-not-is_unbound-clause-drawn : goal.returns-then-not-is_unbound-
 returns-then-not-is_unbound-clause-drawn g c =
     drawn_none c.args.generator.now (is_unbound (block_in c.args.stored.now.stash c.args.label.now))
     (sym c.is_unbound.ensures.value ∙ c.if-not-is_unbound.true)
+
+pub returns-then-not-is_unbound-clause-cost : goal.returns-then-not-is_unbound-clause-cost
+returns-then-not-is_unbound-clause-cost g c = λ cost.
+    costs_none (g.S.Share.seen c.args.share.now) c.args.account.now cost
 
 -- it is sealed anew
 pub returns-clause-loaded : goal.returns-clause-loaded

@@ -1,10 +1,10 @@
-use Rattle.std.proofs.Common.{Ok, Err, ap, arith}
+use Rattle.std.proofs.Common.{Ok, Err, refl, inl, ap, arith}
 use Rattle.std.specs.FinMap.{len, entries}
 use Rattle.account_machine.specs.declared.answer.Answer.TheVariants as answers
 use Rattle.stored_home.specs.declared.fault.StoreFault.{StoreFault}
 use Rattle.user_state.specs.Fits.{is_lost}
 use Rattle.turn_secrets.specs.Listing.{TellsLines, TellsList}
-use Rattle.turn_secrets.proofs.Listed.{listed_given, fails_given, fails_looks, fails_after, fails_sound, no_fault_lines}
+use Rattle.turn_secrets.proofs.Listed.{listed_given, fails_given, fails_looks, fails_after, fails_sound, fails_known, no_fault_lines}
 use Rattle.turn_secrets.proofs.Looking.{looks_as}
 use Rattle.turn_secrets.proofs.factors.list_factors.Goals as goal
 
@@ -45,3 +45,10 @@ returns-in-Err-clause-after g c =
 pub returns-in-Err-clause-sound : goal.returns-in-Err-clause-sound
 returns-in-Err-clause-sound g c =
     fails_sound c.args.state.now c.requires.sound c.in-Err.fault c.fail.new.state c.fail.result c.fail.ensures
+
+pub returns-in-Ok-clause-known : goal.returns-in-Ok-clause-known
+returns-in-Ok-clause-known g c = inl (c.in-Ok.lines, refl)
+
+pub returns-in-Err-clause-known : goal.returns-in-Err-clause-known
+returns-in-Err-clause-known g c =
+    fails_known c.args.state.now c.in-Err.fault c.fail.new.state c.fail.result c.fail.ensures

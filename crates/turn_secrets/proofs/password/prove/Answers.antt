@@ -4,6 +4,7 @@ use Rattle.account_machine.specs.declared.answer.Answer.TheVariants as answers
 use Rattle.account_machine.specs.declared.request.Request.TheVariants.{Authenticate}
 use Rattle.account_machine.specs.declared.request.Turn.TheVariants.{Act}
 use Rattle.auth_session.specs.Table.{Table, edit_at, proved_kept}
+use Rattle.home_edits.specs.Costs.{PutsCost}
 use Rattle.home_edits.proofs.Edited.{ok_not_fault}
 use Rattle.share_api.specs.Contents.{Bytes}
 use Rattle.share_api.specs.Seen.{ShareSeen}
@@ -156,3 +157,19 @@ returns-in-Err-Failed-clause-sound g c =
       doubt = Some Editions;
     })) (sym c.in-Err-Failed.ensures.err)
     (sound_doubted before c.requires.sound (Some Editions) c.bind.new.generator)
+
+-- no factor's record is put
+pub returns-in-Ok-clause-cost : goal.returns-in-Ok-clause-cost
+returns-in-Ok-clause-cost g c = λ cost.
+    subst (λ (a : Bytes). PutsCost (g.S.Share.seen c.args.share.now) (g.S.Share.seen c.bind.new.share) a cost)
+    c.as_str-account.ensures.value (c.in-Ok.ensures.cost cost)
+
+pub returns-in-Err-NoMemory-clause-cost : goal.returns-in-Err-NoMemory-clause-cost
+returns-in-Err-NoMemory-clause-cost g c = λ cost.
+    subst (λ (a : Bytes). PutsCost (g.S.Share.seen c.args.share.now) (g.S.Share.seen c.bind.new.share) a cost)
+    c.as_str-account.ensures.value (c.in-Err-NoMemory.ensures.cost cost)
+
+pub returns-in-Err-Failed-clause-cost : goal.returns-in-Err-Failed-clause-cost
+returns-in-Err-Failed-clause-cost g c = λ cost.
+    subst (λ (a : Bytes). PutsCost (g.S.Share.seen c.args.share.now) (g.S.Share.seen c.bind.new.share) a cost)
+    c.as_str-account.ensures.value (c.in-Err-Failed.ensures.cost cost)
