@@ -1,9 +1,8 @@
 -- Edits of one step on a leaf.
-use Rattle.std.proofs.Common.{◌≡◌, List, [], ◌∷◌, Bool, false, refl, sym, ◌∙◌, subst, inl, ⊎_elim, append-nil}
+use Rattle.std.proofs.Common.{◌≡◌, [], ◌∷◌, None, Bool, false, refl, sym, ◌∙◌, subst, inl, ⊎_elim, append-nil}
 use Rattle.std.specs.Prelude.{is_some}
 use Rattle.account_machine.specs.declared.user.Durable.{Durable}
 use Rattle.share_api.specs.Contents.{Bytes, Contents}
-use Rattle.share_api.specs.Folds.{Fold}
 use Rattle.share_api.specs.Seen.{ShareSeen, Makes}
 use Rattle.share_api.specs.Steps.{Does}
 use Rattle.share_api.specs.declared.step.Reply.TheVariants.{Failed}
@@ -15,6 +14,7 @@ use Rattle.stored_home.specs.Loaded.{IsKept}
 use Rattle.stored_home.specs.declared.stored.Stored.{Stored}
 use Rattle.home_edits.specs.Edits.{Starts, Edits}
 use Rattle.home_edits.proofs.CostLemmas.{same_rest}
+use Rattle.pin_edits.specs.Refusals.{ChangesNothing}
 
 -- What an edit of one step needs of it, where the tree isn't lost: whatever it leads to holds the durable part before
 -- or the one after it; once it is done, the one after it, with the same loaded state.
@@ -81,7 +81,26 @@ steps_none old account stored after ok failed Asks edits =
 -- and changes nothing
 pub nothing_made : (old : ShareSeen) (account : Bytes) (stored after : Stored) (ok failed : Type 0)
     (Asks : Contents → Keys → Durable → Durable → Type 0) (edits : Edits old old account stored after ok failed Asks)
-    (contents new : Contents) → Fold (Does old.era) contents edits.steps new → new ≡ contents
-nothing_made old account stored after ok failed Asks edits contents new fold =
-    subst (λ (s : List Step). Fold (Does old.era) contents s new)
-    (steps_none old account stored after ok failed Asks edits) fold
+    → ChangesNothing old account stored Asks edits.steps
+nothing_made old account stored after ok failed Asks edits =
+    subst (ChangesNothing old account stored Asks) (sym (steps_none old account stored after ok failed Asks edits))
+    (record {
+      quiet = λ has. has;
+      held = λ contents keys before next starts. starts.holds;
+      same = λ contents end clear fold. fold;
+    })
+
+-- nor does one whose step didn't fail and left the contents as they were
+pub one_refused : (old : ShareSeen) (account : Bytes) (stored : Stored)
+    (Asks : Contents → Keys → Durable → Durable → Type 0) (step : Step) → (step.reply ≡ Failed → ⊥)
+    → ((contents mid : Contents) → contents.doubt ≡ None → Does old.era contents step mid → mid ≡ contents)
+    → ChangesNothing old account stored Asks (step ∷ [])
+one_refused old account stored Asks step calm stays = record {
+  quiet = λ has. ⊎_elim calm absurd has;
+  held = λ contents keys before next starts. (
+    starts.holds,
+    λ mid does. subst (λ c. HoldsUnder (is_some old.lost) c account before keys)
+        (sym (stays contents mid starts.kept.clear does)) starts.holds,
+  );
+  same = λ contents end clear fold. fold.2 ∙ stays contents fold.0 clear fold.1;
+}

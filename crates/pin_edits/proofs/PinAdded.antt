@@ -23,6 +23,7 @@ use Rattle.share_api.specs.Steps.{Does, Follows, done, with_leaf, leaf_of}
 use Rattle.share_api.specs.declared.leaf.Leaf.{Leaf}
 use Rattle.share_api.specs.declared.step.Step.{Step}
 use Rattle.share_api.specs.declared.step.Write.TheVariants.{Put, Remove, RemoveLeaf}
+use Rattle.share_api.proofs.FoldLaws.{throughout_weaker}
 use Rattle.share_api.proofs.StepLaws.{settled_same, throughout_follows}
 use Rattle.stash_format.specs.Forms.{extra_by, main_of}
 use Rattle.stash_format.specs.Resets.{Resets}
@@ -405,20 +406,28 @@ module _ (account : Bytes) (plain : IsTrue (is_account_name account)) (stored : 
         );
   }
 
--- a new leaf that is removed again: what was held is held
+-- a new leaf that is removed again: what was held is held throughout
+pub back_held : (era : Era) (account : Bytes) (contents : Contents) (keys : Keys) (before : Durable) (tree : ℕ)
+    (leaf : Leaf) (steps : List Step) → contents.doubt ≡ None → get contents.leaves tree ≡ None
+    → HoldsUnder false contents account before keys → Follows (RemoveLeaf tree ∷ []) steps
+    → Throughout (Does era) (λ c. HoldsUnder false c account before keys) (with_leaf contents tree leaf) steps
+back_held era account contents keys before tree leaf steps clear free holds follows =
+    throughout_follows era (with_leaf contents tree leaf) (RemoveLeaf tree ∷ []) steps
+    (λ c. HoldsUnder false c account before keys) clear (
+      fresh_leaf_held false account keys contents before tree clear leaf free holds,
+      subst (λ c. HoldsUnder false c account before keys)
+          (sym (ap (λ (l : Leaves). record contents { leaves = l }) (leaf_undone contents.leaves tree leaf free))) holds,
+    ) follows
+
 pub back_suits : (old : ShareSeen) (account : Bytes) (stored later : Stored) (label : Bytes) (pin : NewPin)
     (main : Bytes) (tree : ℕ) (ok : Type 0) → (ok → ⊥)
     → SuitsLeaf old account stored later (pin_leaf pin) tree (RemoveLeaf tree ∷ []) ok (SetsPin label pin main)
 back_suits old account stored later label pin main tree ok none = record {
   throughout = λ contents keys before next steps starts free follows.
-      let fresh = fresh_leaf_held false account keys contents before tree starts.kept.clear (leaf_of (pin_leaf pin)) free
-      starts.holds in
-      throughout_follows old.era (with_leaf contents tree (leaf_of (pin_leaf pin))) (RemoveLeaf tree ∷ []) steps
-      (HoldsEither false account keys before next) starts.kept.clear (
-        inl fresh,
-        inl (subst (λ c. HoldsUnder false c account before keys)
-            (sym (ap (λ (l : Leaves). record contents { leaves = l })
-            (leaf_undone contents.leaves tree (leaf_of (pin_leaf pin)) free))) starts.holds),
-      ) follows;
+      throughout_weaker (Does old.era) (λ c. HoldsUnder false c account before keys)
+      (HoldsEither false account keys before next) (with_leaf contents tree (leaf_of (pin_leaf pin))) steps
+      (λ c h. inl h)
+      (back_held old.era account contents keys before tree (leaf_of (pin_leaf pin)) steps starts.kept.clear free
+      starts.holds follows);
   last = λ o. absurd (none o);
 }

@@ -1,5 +1,5 @@
 -- A PIN's count is set back.
-use Rattle.std.proofs.Common.{◌≡◌, ℕ, List, [], ◌∷◌, Option, None, Some, Result, Ok, Err, IsOk, Bool, true, false, cond, refl, sym, ap, ◌∙◌, subst, ◌⊎◌, inl, inr, ⊎_elim, true≢false}
+use Rattle.std.proofs.Common.{◌≡◌, ℕ, [], ◌∷◌, Option, None, Some, Result, Ok, Err, IsOk, IsErr, Bool, true, false, cond, refl, sym, ap, ◌∙◌, subst, ◌⊎◌, inl, inr, ⊎_elim, true≢false}
 use Rattle.std.specs.Prelude.{IfErr, bytes_eq, is_some}
 use Rattle.std.specs.Result.{result_ok}
 use Rattle.std.specs.FinMap.{get}
@@ -18,7 +18,6 @@ use Rattle.secret_stash.specs.Faults.{told_record}
 use Rattle.record_names.specs.Names.{factor_name}
 use Rattle.share_api.specs.Conditions.{IsTryFault}
 use Rattle.share_api.specs.Contents.{Bytes, Contents}
-use Rattle.share_api.specs.Folds.{Fold}
 use Rattle.share_api.specs.Replies.{fits_reply}
 use Rattle.share_api.specs.Seen.{ShareSeen, Makes, step_of}
 use Rattle.share_api.specs.Steps as steps
@@ -48,8 +47,9 @@ use Rattle.stored_home.proofs.MapLemmas.{from_some}
 use Rattle.home_edits.specs.Edits.{Starts}
 use Rattle.home_edits.proofs.Edited.{edits_none}
 use Rattle.pin_edits.specs.Faults.{IsStashFault, IsResetFault}
+use Rattle.pin_edits.specs.Refusals.{ChangesNothing}
 use Rattle.pin_edits.specs.Resets.{IsResetOf, ResetsPin, EditsByReset, told_reset}
-use Rattle.pin_edits.proofs.OneStep.{Steps, edits_one, one_step, nothing_made}
+use Rattle.pin_edits.proofs.OneStep.{Steps, edits_one, one_step, nothing_made, one_refused}
 use Rattle.pin_edits.proofs.PinCounted.{HoldsPin, leaf_same, pin_held, leaf_kept, count_held}
 
 -- ---- the payload
@@ -132,16 +132,25 @@ ok_reply name (Ok false) o = absurd (true≢false (sym o))
 ok_reply name (Err fault) o = absurd (true≢false (sym o))
 
 -- a refusal changes nothing
-refused_same : (era : Era) (moment tree : ℕ) (secret name : Bytes) (r : Result Bool ShareFault) (damaged : Bytes)
-    → told_reset name r ≡ Err (faults.Damaged damaged) → (contents mid : Contents)
+refused_same : (era : Era) (moment tree : ℕ) (secret name : Bytes) (r : Result Bool ShareFault)
+    → IsErr (told_reset name r) → (told_reset name r ≡ Err faults.Failed → ⊥) → (contents mid : Contents)
     → Leads era moment (ResetLeaf tree secret) (fits_reply r) contents mid → mid ≡ contents
-refused_same era moment tree secret name (Ok true) damaged e contents mid l = absurd (cc e)
-refused_same era moment tree secret name (Ok false) damaged e contents mid l =
+refused_same era moment tree secret name (Ok true) e not contents mid l = absurd (true≢false (sym e))
+refused_same era moment tree secret name (Ok false) e not contents mid l =
     reset_refused era moment secret tree contents mid l
-refused_same era moment tree secret name (Err shares.Failed) damaged e contents mid l = absurd (cc e)
-refused_same era moment tree secret name (Err (shares.TreeLost host chip)) damaged e contents mid l = l
-refused_same era moment tree secret name (Err (shares.Damaged other)) damaged e contents mid l = l
-refused_same era moment tree secret name (Err shares.NoMemory) damaged e contents mid l = l
+refused_same era moment tree secret name (Err shares.Failed) e not contents mid l = absurd (not refl)
+refused_same era moment tree secret name (Err (shares.TreeLost host chip)) e not contents mid l = l
+refused_same era moment tree secret name (Err (shares.Damaged other)) e not contents mid l = l
+refused_same era moment tree secret name (Err shares.NoMemory) e not contents mid l = l
+
+-- and is no failed step
+refused_calm : (name : Bytes) (r : Result Bool ShareFault) → (told_reset name r ≡ Err faults.Failed → ⊥)
+    → fits_reply r ≡ Failed → ⊥
+refused_calm name (Ok fits) not e = cc e
+refused_calm name (Err shares.Failed) not e = not refl
+refused_calm name (Err (shares.TreeLost host chip)) not e = cc e
+refused_calm name (Err (shares.Damaged other)) not e = cc e
+refused_calm name (Err shares.NoMemory) not e = cc e
 
 module _ (account : Bytes) (stored : Stored) (label : Bytes) (row : FactorRecord)
     (at : get stored.factors label ≡ Some row) (stash : Stash) (stash_is : stored.stash ≡ Some stash) (tree : ℕ)
@@ -238,11 +247,12 @@ module _ (account : Bytes) (stored : Stored) (label : Bytes) (row : FactorRecord
       (ResetsPin label main) step found makes fails done suits in
       record {
         edits = edits;
-        refused = λ damaged refused contents end clear fold.
-            let f : Fold (Does old.era) contents (step ∷ []) end =
-            subst (λ (s : List Step). Fold (Does old.era) contents s end) only fold in
-            f.2 ∙ refused_same old.era moment tree secret name tried damaged (sym is ∙ refused) contents f.0
-            (plainly contents f.0 clear f.1);
+        refused = λ e not.
+            subst (ChangesNothing old account stored (ResetsPin label main)) (sym only)
+            (one_refused old account stored (ResetsPin label main) step (refused_calm name tried (λ f. not (is ∙ f)))
+            (λ contents mid clear does.
+            refused_same old.era moment tree secret name tried (subst IsErr is e) (λ f. not (is ∙ f)) contents mid
+            (plainly contents mid clear does)));
       }
     where
       fits_not_failed : ◌≡◌ {A = Reply} (Fits true) Failed → ⊥
@@ -257,8 +267,8 @@ no_reset old account stored label main result none calm =
     none calm in
     record {
       edits = edits;
-      refused = λ name damaged contents end clear fold. nothing_made old account stored stored (IsOk result)
-          (result ≡ Err faults.Failed) (ResetsPin label main) edits contents end fold;
+      refused = λ e not. nothing_made old account stored stored (IsOk result) (result ≡ Err faults.Failed)
+          (ResetsPin label main) edits;
     }
 
 -- a payload that doesn't open is no failed step

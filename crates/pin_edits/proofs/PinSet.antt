@@ -6,8 +6,8 @@ use Rattle.account_machine.specs.declared.user.Durable.{Durable}
 use Rattle.factor_files.specs.declared.factor.FactorRecord.{FactorRecord}
 use Rattle.record_names.specs.Names.{is_account_name, is_factor_label, stash_name, factor_name}
 use Rattle.share_api.specs.Contents.{Bytes, Contents, Leaves}
-use Rattle.share_api.specs.Folds.{Fold}
-use Rattle.share_api.specs.Seen.{ShareSeen, Makes, Tries, HasFailed, step_of}
+use Rattle.share_api.specs.Folds.{Fold, Throughout}
+use Rattle.share_api.specs.Seen.{ShareSeen, Makes, Tries, step_of}
 use Rattle.share_api.specs.Steps.{Does, with_leaf, leaf_of}
 use Rattle.share_api.specs.declared.leaf.NewLeaf.{NewLeaf}
 use Rattle.share_api.specs.declared.step.Op.TheVariants.{InsertLeaf}
@@ -20,7 +20,7 @@ use Rattle.share_api.proofs.RunLaws.{runs_one, runs_then}
 use Rattle.share_api.proofs.StepLaws.{after_all}
 use Rattle.share_api.proofs.TryLaws.{failed_not_all}
 use Rattle.stash_format.specs.declared.contents.Contents.{Contents as Stash}
-use Rattle.stored_home.specs.Holds.{Keys}
+use Rattle.stored_home.specs.Holds.{Keys, HoldsUnder}
 use Rattle.stored_home.specs.declared.fault.StoreFault.{StoreFault}
 use Rattle.stored_home.specs.declared.fault.StoreFault.TheVariants as faults
 use Rattle.stored_home.specs.declared.stored.Stored.{Stored}
@@ -30,13 +30,14 @@ use Rattle.home_edits.specs.Edits.{Starts}
 use Rattle.home_edits.specs.Passwords.{TakesFactor}
 use Rattle.home_edits.proofs.Edited.{edits_none, ok_gives}
 use Rattle.pin_edits.specs.Pins.{pin_leaf, pin_row, IsOldPin, IsTakenLeaf, IsPinStash, SetsPin, PutsPin, EditsPin, ComesToNothing}
+use Rattle.pin_edits.specs.Refusals.{ChangesNothing}
 use Rattle.pin_edits.specs.Writes.{IsRowWrite, IsStashWrite, rest_of}
 use Rattle.pin_edits.specs.declared.pin_stash.NewPin.{NewPin}
 use Rattle.pin_edits.proofs.Inserted.{SuitsLeaf, insert_failed, insert_leads, edits_inserted, inserted_steps}
 use Rattle.pin_edits.proofs.NamedFaults.{failed_not_damaged}
 use Rattle.pin_edits.proofs.PinCounted.{pin_held}
-use Rattle.pin_edits.proofs.OneStep.{edits_one, steps_none, nothing_made}
-use Rattle.pin_edits.proofs.PinAdded.{add_suits, update_suits, back_suits}
+use Rattle.pin_edits.proofs.OneStep.{edits_one, nothing_made}
+use Rattle.pin_edits.proofs.PinAdded.{add_suits, update_suits, back_held, back_suits}
 
 -- it made no step
 pub no_set : (old : ShareSeen) (account : Bytes) (stored : Stored) (result : Result Unit StoreFault)
@@ -47,10 +48,7 @@ no_set old account stored result Asks none calm stash =
     let edits = edits_none old account stored stored (IsOk result) (result ≡ Err faults.Failed) Asks none calm in
     record {
       edits = edits;
-      refused = λ e not contents end clear fold. nothing_made old account stored stored (IsOk result)
-          (result ≡ Err faults.Failed) Asks edits contents end fold;
-      quiet = λ e not has. subst HasFailed (steps_none old account stored stored (IsOk result)
-          (result ≡ Err faults.Failed) Asks edits) has;
+      refused = λ e not. nothing_made old account stored stored (IsOk result) (result ≡ Err faults.Failed) Asks edits;
       damaged = λ name is contents end keys before next starts fold. stash name is;
     }
 
@@ -66,7 +64,6 @@ failed_set old new account stored result Asks moment leaf found makes is =
           (step_of old moment (InsertLeaf leaf) Failed) found makes (λ f. refl) (λ o e. none o)
           (insert_failed old moment leaf account stored (IsOk result) Asks none);
       refused = λ e not. absurd (not is);
-      quiet = λ e not. absurd (not is);
       damaged = λ name damaged. absurd (failed_not_damaged result (λ e. is) name damaged);
     }
 
@@ -94,6 +91,32 @@ module _ (old mid new : ShareSeen) (account : Bytes) (stored later : Stored) (re
       let l = insert_leads old moment (pin_leaf pin) tree contents mid starts.kept.clear does in
       not_None h.pin.leaf (sym h.pin.found ∙ l.0)
 
+  -- an insert that was taken back changes nothing
+  back_refused : (tried : Tries mid new (RemoveLeaf tree ∷ []) (result ≡ Err faults.Failed → ⊥)
+      (result ≡ Err faults.Failed)) → (result ≡ Err faults.Failed → ⊥)
+      → ChangesNothing old account stored Asks (insert_step ∷ tried.steps)
+  back_refused tried not = record {
+    quiet = λ has. ⊎_elim insert_done
+        (λ more. failed_not_all (RemoveLeaf tree ∷ []) tried.steps more (tried.all not)) has;
+    held = λ contents keys before next starts. (
+      starts.holds,
+      λ c does.
+          let l = insert_leads old moment (pin_leaf pin) tree contents c starts.kept.clear does in
+          subst (λ (t : Bool × Contents). Throughout (Does old.era) (λ x. HoldsUnder t.0 x account before keys) t.1
+          tried.steps)
+          (λ i. (sym found i, sym l.1 i))
+          (back_held old.era account contents keys before tree (leaf_of (pin_leaf pin)) tried.steps starts.kept.clear
+          l.0 (subst (λ (lost : Bool). HoldsUnder lost contents account before keys) found starts.holds)
+          tried.follows),
+    );
+    same = λ contents end clear fold.
+        let l = insert_leads old moment (pin_leaf pin) tree contents fold.0 clear fold.1 in
+        after_all old.era (with_leaf contents tree (leaf_of (pin_leaf pin))) end (RemoveLeaf tree ∷ []) tried.steps clear
+        (tried.all not) (subst (λ c. Fold (Does old.era) c tried.steps end) l.1 fold.2)
+        ∙ ap (λ (m : Leaves). record contents { leaves = m })
+        (leaf_undone contents.leaves tree (leaf_of (pin_leaf pin)) l.0);
+  }
+
   -- the leaf was removed again
   back_set : (IsOk result → ⊥)
       → Tries mid new (RemoveLeaf tree ∷ []) (result ≡ Err faults.Failed → ⊥) (result ≡ Err faults.Failed)
@@ -112,19 +135,7 @@ module _ (old mid new : ShareSeen) (account : Bytes) (stored later : Stored) (re
       (RemoveLeaf tree ∷ []) found makes tried goes fails suits in
       record {
         edits = edits;
-        refused = λ e not contents end clear fold.
-            let f : Fold (Does old.era) contents
-            (step_of old moment (InsertLeaf (pin_leaf pin)) (Labelled tree) ∷ tried.steps) end =
-            subst (λ (s : List Step). Fold (Does old.era) contents s end) steps fold in
-            let l = insert_leads old moment (pin_leaf pin) tree contents f.0 clear f.1 in
-            after_all old.era (with_leaf contents tree (leaf_of (pin_leaf pin))) end (RemoveLeaf tree ∷ []) tried.steps
-            clear (tried.all not)
-            (subst (λ c. Fold (Does old.era) c tried.steps end) l.1 f.2)
-            ∙ ap (λ (m : Leaves). record contents { leaves = m })
-            (leaf_undone contents.leaves tree (leaf_of (pin_leaf pin)) l.0);
-        quiet = λ e not has. ⊎_elim insert_done
-            (λ more. failed_not_all (RemoveLeaf tree ∷ []) tried.steps more (tried.all not))
-            (subst HasFailed steps has);
+        refused = λ e not. subst (ChangesNothing old account stored Asks) (sym steps) (back_refused tried not);
         damaged = λ name is contents end keys before next starts fold.
             let f : Fold (Does old.era) contents
             (step_of old moment (InsertLeaf (pin_leaf pin)) (Labelled tree) ∷ tried.steps) end =
@@ -141,7 +152,6 @@ module _ (old mid new : ShareSeen) (account : Bytes) (stored later : Stored) (re
     edits = edits_inserted old mid new account stored later (IsOk result) (result ≡ Err faults.Failed) (IsOk result)
         (result ≡ Err faults.Failed) Asks moment (pin_leaf pin) tree writes found makes tried (λ o. o) (λ f. f) suits;
     refused = λ e not. absurd (not (failed e));
-    quiet = λ e not. absurd (not (failed e));
     damaged = λ name damaged. absurd (failed_not_damaged result failed name damaged);
   }
 
@@ -192,13 +202,14 @@ module _ (old mid new : ShareSeen) (account : Bytes) (stored later : Stored) (re
         → EditsPin old new account stored later result (SetsPin label pin main)
     pin_set had o puts taken = ⊎_elim (λ w. named_set had o w.0 w.1 w.2 w.3) (λ w. back_set w.0 w.1 taken) puts
 
--- want of memory leaves no step, or an insert that was taken back
+-- a refusal leaves no step, or an insert that was taken back
 pub pin_calm : (old mid new : ShareSeen) (account : Bytes) (new_row : FactorRecord) (moment tree : ℕ) (leaf : NewLeaf)
     (stash_put : Write) (had : Option (Write × Write)) (result : Result Unit StoreFault)
     → Makes old mid (step_of old moment (InsertLeaf leaf) (Labelled tree))
-    → PutsPin mid new account new_row tree stash_put had result → result ≡ Err faults.NoMemory → ComesToNothing old new
-pin_calm old mid new account new_row moment tree leaf stash_put had result makes puts is = ⊎_elim
-    (λ w. absurd (not_failed (w.2 (subst IsErr (sym is) refl))))
+    → PutsPin mid new account new_row tree stash_put had result → IsErr result → (result ≡ Err faults.Failed → ⊥)
+    → ComesToNothing old new
+pin_calm old mid new account new_row moment tree leaf stash_put had result makes puts is_err not = ⊎_elim
+    (λ w. absurd (not (w.2 is_err)))
     (λ w. inr (
       leaf,
       tree,
@@ -206,11 +217,6 @@ pin_calm old mid new account new_row moment tree leaf stash_put had result makes
       w.1.steps,
       runs_then old mid new (step_of old moment (InsertLeaf leaf) (Labelled tree) ∷ []) w.1.steps
           (runs_one old mid (step_of old moment (InsertLeaf leaf) (Labelled tree)) makes) w.1.runs,
-      w.1.all not_failed,
+      w.1.all not,
     ))
     puts
-  where
-    not_failed : result ≡ Err faults.Failed → ⊥
-    not_failed failed =
-        let both : ◌≡◌ {A = Result Unit StoreFault} (Err faults.NoMemory) (Err faults.Failed) = sym is ∙ failed in
-        cc both

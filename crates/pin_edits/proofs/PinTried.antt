@@ -1,5 +1,5 @@
 -- A PIN is tried.
-use Rattle.std.proofs.Common.{◌≡◌, ℕ, ◌+◌, List, [], ◌∷◌, None, Some, Result, Ok, Err, IsOk, Bool, true, false, refl, sym, ap, ◌∙◌, subst, ◌⊎◌, inl, inr, ⊎_elim, take, true≢false}
+use Rattle.std.proofs.Common.{◌≡◌, ℕ, ◌+◌, List, [], ◌∷◌, None, Some, Result, Ok, Err, IsOk, IsErr, Bool, true, false, refl, sym, ap, ◌∙◌, subst, ◌⊎◌, inl, inr, ⊎_elim, take, true≢false}
 use Rattle.std.specs.Prelude.{bytes_eq, is_some}
 use Rattle.std.specs.FinMap.{get}
 use Rattle.account_machine.specs.declared.factor.Factor.{Factor}
@@ -42,8 +42,9 @@ use Rattle.stored_home.specs.declared.stored.Stored.{Stored}
 use Rattle.stored_home.proofs.MapLemmas.{from_some}
 use Rattle.home_edits.specs.Edits.{Starts}
 use Rattle.home_edits.proofs.Edited.{edits_none}
+use Rattle.pin_edits.specs.Refusals.{ChangesNothing}
 use Rattle.pin_edits.specs.Tries.{is_low, durable_tried, answer_of, TriesPin, AnswersPin, EditsByTry, told_try}
-use Rattle.pin_edits.proofs.OneStep.{Steps, edits_one, one_step, nothing_made}
+use Rattle.pin_edits.proofs.OneStep.{Steps, edits_one, one_step, nothing_made, one_refused}
 use Rattle.pin_edits.proofs.PinCounted.{HoldsPin, pin_held, leaf_kept, count_held, own_leaf}
 
 -- what a try answers and leaves of a leaf
@@ -200,15 +201,23 @@ ok_told : (r : Result TryAnswer ShareFault) (answer : TryAnswer) → told_try r 
 ok_told (Ok other) answer e = let same : other ≡ answer = cc in ap Ok same
 ok_told (Err fault) answer e = absurd (cc e)
 
--- a damaged leaf stays as it is
-damaged_same : (era : Era) (moment tree : ℕ) (les : Bytes) (r : Result TryAnswer ShareFault) (name : Bytes)
-    → told_try r ≡ Err (faults.Damaged name) → (contents mid : Contents)
+-- a refusal leaves the leaf as it is
+refused_same : (era : Era) (moment tree : ℕ) (les : Bytes) (r : Result TryAnswer ShareFault) → IsErr (told_try r)
+    → (told_try r ≡ Err faults.Failed → ⊥) → (contents mid : Contents)
     → Leads era moment (TryLeaf tree les) (try_reply r) contents mid → mid ≡ contents
-damaged_same era moment tree les (Ok answer) name e contents mid l = absurd (cc e)
-damaged_same era moment tree les (Err shares.Failed) name e contents mid l = absurd (cc e)
-damaged_same era moment tree les (Err (shares.TreeLost host chip)) name e contents mid l = l
-damaged_same era moment tree les (Err (shares.Damaged other)) name e contents mid l = l
-damaged_same era moment tree les (Err shares.NoMemory) name e contents mid l = l
+refused_same era moment tree les (Ok answer) e not contents mid l = absurd (true≢false (sym e))
+refused_same era moment tree les (Err shares.Failed) e not contents mid l = absurd (not refl)
+refused_same era moment tree les (Err (shares.TreeLost host chip)) e not contents mid l = l
+refused_same era moment tree les (Err (shares.Damaged other)) e not contents mid l = l
+refused_same era moment tree les (Err shares.NoMemory) e not contents mid l = l
+
+-- and is no failed step
+refused_calm : (r : Result TryAnswer ShareFault) → (told_try r ≡ Err faults.Failed → ⊥) → try_reply r ≡ Failed → ⊥
+refused_calm (Ok answer) not e = cc e
+refused_calm (Err shares.Failed) not e = not refl
+refused_calm (Err (shares.TreeLost host chip)) not e = cc e
+refused_calm (Err (shares.Damaged name)) not e = cc e
+refused_calm (Err shares.NoMemory) not e = cc e
 
 -- the step from contents in which no leaf is in doubt
 plainly : (old : ShareSeen) (moment tree : ℕ) (les : Bytes) (result : Result TryAnswer ShareFault)
@@ -306,10 +315,12 @@ module _ (account : Bytes) (stored : Stored) (label : Bytes) (row : FactorRecord
             let f = folded contents end fold in
             answers contents f.0 keys before next (begun found contents keys before next starts) f.1 answer
             (ok_told gave answer (sym is ∙ ok)) stash block stash_is there;
-        refused = λ name damaged contents end clear fold.
-            let f = folded contents end fold in
-            f.2 ∙ damaged_same old.era moment tree (take 32 key) gave name (sym is ∙ damaged) contents f.0
-            (plainly old moment tree (take 32 key) gave contents f.0 clear f.1);
+        refused = λ e not.
+            subst (ChangesNothing old account stored Asks) (sym only)
+            (one_refused old account stored Asks step (refused_calm gave (λ f. not (is ∙ f)))
+            (λ contents mid clear does.
+            refused_same old.era moment tree (take 32 key) gave (subst IsErr is e) (λ f. not (is ∙ f)) contents mid
+            (plainly old moment tree (take 32 key) gave contents mid clear does)));
       }
 
 -- try_pin, where it made no step
@@ -323,6 +334,6 @@ no_try old account stored label key moment result none calm =
       edits = edits;
       answers = λ answer ok contents end keys before next stash block starts stash_is there fold.
           absurd (none (subst IsOk (sym ok) refl));
-      refused = λ name damaged contents end clear fold. nothing_made old account stored stored (IsOk result)
-          (result ≡ Err faults.Failed) (TriesPin old.era stored label key moment) edits contents end fold;
+      refused = λ e not. nothing_made old account stored stored (IsOk result) (result ≡ Err faults.Failed)
+          (TriesPin old.era stored label key moment) edits;
     }

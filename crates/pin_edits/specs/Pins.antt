@@ -12,7 +12,7 @@ use Rattle.secret_stash.specs.Edits.{live_resets}
 use Rattle.secret_stash.specs.Keys.{new_block, opened_payload, opened_sealed, pin_wrap}
 use Rattle.share_api.specs.Contents.{Bytes, Contents}
 use Rattle.share_api.specs.Folds.{Fold}
-use Rattle.share_api.specs.Seen.{ShareSeen, Runs, Tries, HasFailed, step_of}
+use Rattle.share_api.specs.Seen.{ShareSeen, Runs, Tries, step_of}
 use Rattle.share_api.specs.Steps.{Does, AllDone}
 use Rattle.share_api.specs.declared.step.Op.TheVariants.{InsertLeaf}
 use Rattle.share_api.specs.declared.step.Reply.TheVariants.{Labelled}
@@ -35,6 +35,7 @@ use Rattle.stored_home.specs.declared.fault.StoreFault.{StoreFault}
 use Rattle.stored_home.specs.declared.fault.StoreFault.TheVariants.{Failed, Damaged}
 use Rattle.stored_home.specs.declared.stored.Stored.{Stored}
 use Rattle.home_edits.specs.Edits.{Starts, Edits}
+use Rattle.pin_edits.specs.Refusals.{ChangesNothing}
 use Rattle.pin_edits.specs.Writes.{IsRowWrite, rest_of}
 use Rattle.pin_edits.specs.declared.pin_stash.NewPin.{NewPin}
 
@@ -136,14 +137,12 @@ ComesToNothing old new =
     × Runs old new (step_of old moment (InsertLeaf leaf) (Labelled tree) ∷ steps)
     × AllDone (RemoveLeaf tree ∷ []) steps)
 
--- The edit of a PIN which changes nothing where it is refused, and of which no step has failed then. Of contents that
--- hold the durable part before it, the damaged record is the stash.
+-- The edit of a PIN which changes nothing where it is refused. Of contents that hold the durable part before it, the
+-- damaged record is the stash.
 pub record EditsPin (old new : ShareSeen) (account : Bytes) (stored after : Stored) (result : Result Unit StoreFault)
     (Asks : Contents → Keys → Durable → Durable → Type 0) : Type 0 where
   pub edits : Edits old new account stored after (IsOk result) (result ≡ Err Failed) Asks
-  pub refused : IsErr result → (result ≡ Err Failed → ⊥) → (contents end : Contents) → contents.doubt ≡ None
-      → Fold (Does old.era) contents edits.steps end → end ≡ contents
-  pub quiet : IsErr result → (result ≡ Err Failed → ⊥) → HasFailed edits.steps → ⊥
+  pub refused : IsErr result → (result ≡ Err Failed → ⊥) → ChangesNothing old account stored Asks edits.steps
   pub damaged : (name : Bytes) → result ≡ Err (Damaged name) → (contents end : Contents) (keys : Keys)
       (before next : Durable) → Starts (is_some old.lost) account stored Asks contents keys before next
       → Fold (Does old.era) contents edits.steps end → name ≡ stash_name account

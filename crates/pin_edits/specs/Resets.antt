@@ -1,5 +1,5 @@
 -- Setting a PIN's count back.
-use Rattle.std.specs.Prelude.{◌≡◌, ℕ, Bool, true, false, Some, Ok, Err, Result, None, IsOk}
+use Rattle.std.specs.Prelude.{◌≡◌, ℕ, Bool, true, false, Some, Ok, Err, Result, IsOk, IsErr}
 use Rattle.std.specs.FinMap.{get}
 use Rattle.account_machine.specs.declared.factor.Factor.{Factor}
 use Rattle.account_machine.specs.declared.user.Durable.{Durable}
@@ -7,9 +7,7 @@ use Rattle.account_machine.specs.Effect.{cleared}
 use Rattle.factor_files.specs.declared.factor.FactorRecord.{FactorRecord}
 use Rattle.secret_stash.specs.Keys.{opened_payload}
 use Rattle.share_api.specs.Contents.{Bytes, Contents}
-use Rattle.share_api.specs.Folds.{Fold}
 use Rattle.share_api.specs.Seen.{ShareSeen}
-use Rattle.share_api.specs.Steps.{Does}
 use Rattle.share_api.specs.declared.fault.ShareFault.{ShareFault}
 use Rattle.stash_format.specs.declared.contents.Contents.{Contents as Stash}
 use Rattle.stash_format.specs.declared.payload.Payload.{Payload}
@@ -19,6 +17,7 @@ use Rattle.stored_home.specs.declared.fault.StoreFault.{StoreFault}
 use Rattle.stored_home.specs.declared.fault.StoreFault.TheVariants as faults
 use Rattle.stored_home.specs.declared.stored.Stored.{Stored}
 use Rattle.home_edits.specs.Edits.{Edits, told_fault}
+use Rattle.pin_edits.specs.Refusals.{ChangesNothing}
 
 -- the payload under the main key has this reset secret, of the record's label and edition, and the record names the leaf
 pub record IsResetOf (stash : Stash) (main label : Bytes) (row : FactorRecord) (tree : ℕ) (secret : Bytes) : Type 0 where
@@ -44,5 +43,5 @@ told_reset name (Err fault) = Err (told_fault fault)
 pub record EditsByReset (old new : ShareSeen) (account : Bytes) (stored : Stored) (label main : Bytes)
     (result : Result Unit StoreFault) : Type 0 where
   pub edits : Edits old new account stored stored (IsOk result) (result ≡ Err faults.Failed) (ResetsPin label main)
-  pub refused : (name : Bytes) → result ≡ Err (faults.Damaged name) → (contents new : Contents)
-      → contents.doubt ≡ None → Fold (Does old.era) contents edits.steps new → new ≡ contents
+  pub refused : IsErr result → (result ≡ Err faults.Failed → ⊥)
+      → ChangesNothing old account stored (ResetsPin label main) edits.steps

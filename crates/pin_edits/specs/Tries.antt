@@ -1,5 +1,5 @@
 -- Trying a PIN.
-use Rattle.std.specs.Prelude.{◌≡◌, ℕ, Bool, true, false, None, Some, Result, Ok, Err, bytes_eq, is_some, take, IsOk}
+use Rattle.std.specs.Prelude.{◌≡◌, ℕ, Bool, true, false, Some, Result, Ok, Err, bytes_eq, is_some, take, IsOk, IsErr}
 use Rattle.std.specs.FinMap.{get}
 use Rattle.account_machine.specs.declared.factor.Factor.{Factor}
 use Rattle.account_machine.specs.declared.user.Durable.{Durable}
@@ -27,6 +27,7 @@ use Rattle.stored_home.specs.declared.fault.StoreFault.{StoreFault}
 use Rattle.stored_home.specs.declared.fault.StoreFault.TheVariants as faults
 use Rattle.stored_home.specs.declared.stored.Stored.{Stored}
 use Rattle.home_edits.specs.Edits.{Edits, Starts, told_fault}
+use Rattle.pin_edits.specs.Refusals.{ChangesNothing}
 
 -- how the try of a leaf ended, as an edit tells it
 abbrev pub told_try : Result TryAnswer ShareFault → Result TryAnswer StoreFault
@@ -89,5 +90,5 @@ pub record EditsByTry (old new : ShareSeen) (account : Bytes) (stored : Stored) 
       → stored.stash ≡ Some stash → get stash.blocks label ≡ Some block
       → Fold (Does old.era) contents edits.steps new
       → AnswersPin old.era account label key moment starts.asked.row starts.asked.factor keys block answer
-  pub refused : (name : Bytes) → result ≡ Err (faults.Damaged name) → (contents new : Contents)
-      → contents.doubt ≡ None → Fold (Does old.era) contents edits.steps new → new ≡ contents
+  pub refused : IsErr result → (result ≡ Err faults.Failed → ⊥)
+      → ChangesNothing old account stored (TriesPin old.era stored label key moment) edits.steps

@@ -1,6 +1,6 @@
 //! Adding a PIN.
 
-ghost use Rattle.std.specs.Prelude.{◌≡◌, ◌≤◌, ◌<◌, ◌^◌, IsTrue, IsErrOf, IfErr, OnErr, IsSome, IsSomeAnd, None, is_some};
+ghost use Rattle.std.specs.Prelude.{◌≡◌, ◌≤◌, ◌<◌, ◌^◌, IsTrue, IsErr, IsErrOf, IfErr, OnErr, IsSome, IsSomeAnd, None, is_some};
 ghost use Rattle.std.specs.FinMap.{get};
 ghost use Rattle.record_names.specs.Names.{is_account_name, is_factor_label};
 ghost use Rattle.share_api.specs.Conditions.{IsOf};
@@ -60,7 +60,8 @@ pub fn add_pin<S: Share>(
     ensures only { IfErr result (IsSetFault account.now) }
     ensures tree { TellsLost stored.old.lost result }
     ensures still { IsSome stored.old.lost → S.seen share.new ≡ S.seen share.old }
-    ensures calm { IsErrOf result StoreFault.NoMemory → ComesToNothing (S.seen share.old) (S.seen share.new) }
+    ensures calm { IsErr result → (IsErrOf result StoreFault.Failed → ⊥)
+        → ComesToNothing (S.seen share.old) (S.seen share.new) }
     ensures goes { S.goes share.old share.new }
 {
     in_step(stored)?;

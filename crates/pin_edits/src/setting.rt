@@ -271,7 +271,8 @@ pub(crate) fn set_held<S: Share>(
     ensures coherent { HasRoom stored.old.factors old → IsCoherent account.now stored.old
         → IsCoherent account.now stored.new }
     ensures only { IfErr result (IsHeldFault account.now) }
-    ensures calm { IsErrOf result StoreFault.NoMemory → ComesToNothing (S.seen share.old) (S.seen share.new) }
+    ensures calm { IsErr result → (IsErrOf result StoreFault.Failed → ⊥)
+        → ComesToNothing (S.seen share.old) (S.seen share.new) }
     ensures goes { S.goes share.old share.new }
 {
     let Some(stash) = &stored.stash else {

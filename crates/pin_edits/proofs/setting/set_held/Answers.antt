@@ -8,7 +8,6 @@ use Rattle.share_api.specs.declared.leaf.NewLeaf.{NewLeaf}
 use Rattle.share_api.specs.declared.step.Op.TheVariants.{InsertLeaf}
 use Rattle.share_api.specs.declared.step.Reply.TheVariants.{Labelled, Failed}
 use Rattle.stored_home.specs.declared.fault.StoreFault.{StoreFault}
-use Rattle.stored_home.specs.declared.fault.StoreFault.TheVariants as faults
 use Rattle.home_edits.specs.Passwords.{TakesFactor}
 use Rattle.home_edits.proofs.CostLemmas.{costs_none}
 use Rattle.home_edits.proofs.ShortLemmas.{short_stays}
@@ -136,22 +135,19 @@ returns-in_err-made-clause-only g c =
     subst (λ (r : Result Unit StoreFault). IfErr r (IsHeldFault c.args.account.now)) (sym (p.1 ∙ ap Err p.2))
     (stash_is_held c.args.account.now c.in_err-made.field-0.0 c.in_err-made.ensures.only)
 
--- want of memory comes before the first step, or the leaf is removed again
+-- a refusal comes before the first step, or the leaf is removed again
 pub returns-in_err-made-clause-calm : goal.returns-in_err-made-clause-calm
-returns-in_err-made-clause-calm g c = λ _. inl refl
+returns-in_err-made-clause-calm g c = λ _ _. inl refl
 
 pub returns-in_err-tree-clause-calm : goal.returns-in_err-tree-clause-calm
-returns-in_err-tree-clause-calm g c = λ memory.
-    let result = c.from_residual-in_err-tree.result in
-    let p = err_from_is_err_and result c.from_residual-in_err-tree.ensures.1 in
-    let both : ◌≡◌ {A = Result Unit StoreFault} (Err faults.NoMemory) (Err faults.Failed) =
-    sym memory ∙ p.1 ∙ ap Err (p.2 ∙ fault_same c.in_err-tree.field-0.0 (c.in_err-tree.ensures.only refl)) in
-    absurd (cc both)
+returns-in_err-tree-clause-calm g c = λ _ not.
+    let p = err_from_is_err_and c.from_residual-in_err-tree.result c.from_residual-in_err-tree.ensures.1 in
+    absurd (not (p.1 ∙ ap Err (p.2 ∙ fault_same c.in_err-tree.field-0.0 (c.in_err-tree.ensures.only refl))))
 
 pub returns-clause-calm : goal.returns-clause-calm
-returns-clause-calm g c = λ memory.
+returns-clause-calm g c = λ is_err not.
     pin_calm (g.S.Share.seen c.args.share.now) (g.S.Share.seen c.insert.new.share)
     (g.S.Share.seen c.put_named.new.share) c.args.account.now
     (pin_row c.args.label.now c.next-edition.result c.args.pin.now.derived c.in_ok-tree.tree) c.args.moment
     c.in_ok-tree.tree c.leaf_of_pin.result c.in_ok-made.put c.args.old c.put_named.result c.in_ok-tree.ensures.made
-    c.put_named.ensures.puts memory
+    c.put_named.ensures.puts is_err not
