@@ -6,3 +6,6 @@ pub mod PinsSetBack
 pub mod PinTrials
 pub mod PinTurned
 pub mod PinEnds
+pub mod PinGiven
+pub mod PinSetting
+pub mod PinSetEnds

@@ -1,5 +1,5 @@
 -- A leaf is looked at, and then at most one step is made.
-use Rattle.std.proofs.Common.{◌≡◌, ◌≢◌, ℕ, ◌≤◌, List, [], ◌∷◌, ◌++◌, length, Option, None, Some, Result, Ok, Err, Bool, refl, sym, ap, ◌∙◌, subst, inl, inr, ⊎_elim, is_some, arith}
+use Rattle.std.proofs.Common.{◌≡◌, ◌≢◌, ℕ, ◌≤◌, List, [], ◌∷◌, ◌++◌, length, Option, None, Some, Result, Ok, Err, IsOk, Bool, refl, sym, ap, ◌∙◌, subst, inl, inr, ⊎_elim, is_some, true≢false, arith}
 use Rattle.std.specs.Prelude.{IfErr, IsErrOf, IsSomeAnd, option_map}
 use Rattle.std.specs.FinMap.{get}
 use Rattle.account_machine.specs.declared.answer.Answer.{Answer}
@@ -26,7 +26,7 @@ use Rattle.share_api.specs.declared.step.Reply.{Reply}
 use Rattle.share_api.specs.declared.step.Reply.TheVariants.{Viewed, Failed, TreeLost}
 use Rattle.share_api.specs.declared.step.Step.{Step}
 use Rattle.share_api.proofs.FoldLaws.{fold_split, throughout_append, throughout_among, fold_among}
-use Rattle.share_api.proofs.RunLaws.{runs_then}
+use Rattle.share_api.proofs.RunLaws.{runs_one, runs_then}
 use Rattle.home_edits.proofs.CostLemmas.{same_rest}
 use Rattle.home_recovery.proofs.ReadLemmas.{reads_stay, reads_keep}
 use Rattle.stored_home.specs.Holds.{Keys, Holds, HoldsUnder}
@@ -40,7 +40,10 @@ use Rattle.turn_rows.specs.Due.{IsReady}
 use Rattle.turn_rows.proofs.Quiet.{settled_now}
 use Rattle.turn_secrets.specs.Listing.{Looks}
 use Rattle.turn_secrets.proofs.Looking.{looks_one}
+use Rattle.turn_edits.specs.Endings.{MadeFailed}
+use Rattle.turn_edits.proofs.EndingLemmas.{none_failed}
 use Rattle.turn_pins.specs.Looking.{view_told, TellsView, IsLookFault}
+use Rattle.turn_pins.specs.Setting.{IsRenewFault}
 
 -- ---- a look
 
@@ -84,6 +87,28 @@ view_only account tree (Err (shares.TreeLost host chip)) lost only tells whole =
     subst (λ roots. TellsLoss {A = Option LeafView} roots (Err (shares.TreeLost host chip))) whole tells host chip refl
 view_only account tree (Err (shares.Damaged name)) lost only tells whole = absurd only
 view_only account tree (Err shares.NoMemory) lost only tells whole = absurd only
+
+-- the one record that it finds damaged is the leaf's
+pub view_named : (account : Bytes) (tree : ℕ) (r : Result (Option LeafView) ShareFault) (lost : Option (Bytes × Bytes))
+    → IfErr r IsLeafFault → TellsLoss lost r → lost ≡ None → IfErr (view_told account tree r) (IsRenewFault account tree)
+view_named account tree (Ok (Some view)) lost only tells whole = tt
+view_named account tree (Ok None) lost only tells whole = refl
+view_named account tree (Err shares.Failed) lost only tells whole = tt
+view_named account tree (Err (shares.TreeLost host chip)) lost only tells whole =
+    subst (λ roots. TellsLoss {A = Option LeafView} roots (Err (shares.TreeLost host chip))) whole tells host chip refl
+view_named account tree (Err (shares.Damaged name)) lost only tells whole = absurd only
+view_named account tree (Err shares.NoMemory) lost only tells whole = absurd only
+
+-- a look that shows something didn't fail
+pub view_quiet : (old new : ShareSeen) (account : Bytes) (tree : ℕ) (r : Result (Option LeafView) ShareFault)
+    → Makes old new (step_of old 0 (LookLeaf tree) (view_reply r)) → IsOk (view_told account tree r)
+    → MadeFailed old new → ⊥
+view_quiet old new account tree (Ok (Some view)) made ok =
+    none_failed old new (step_of old 0 (LookLeaf tree) (Viewed (Some view)) ∷ [])
+    (runs_one old new (step_of old 0 (LookLeaf tree) (Viewed (Some view))) made)
+    (λ has. ⊎_elim (λ e. let z : ◌≡◌ {A = Reply} (Viewed (Some view)) Failed = e in cc z) absurd has)
+view_quiet old new account tree (Ok None) made ok = absurd (true≢false (sym ok))
+view_quiet old new account tree (Err fault) made ok = absurd (true≢false (sym ok))
 
 -- ---- one step
 

@@ -1,5 +1,5 @@
 -- The turn of a PIN's try, by what the leaf answered.
-use Rattle.std.proofs.Common.{◌≡◌, ◌≢◌, ℕ, ◌-◌, ◌≤◌, ◌<◌, List, [], ◌∷◌, ◌++◌, length, take, Bool, true, false, Option, None, Some, Result, Ok, Err, IsOk, refl, sym, ap, ◌∙◌, subst, ◌⊎◌, inl, inr, ⊎_elim, is_some, option_map, bytes_eq, arith}
+use Rattle.std.proofs.Common.{◌≡◌, ◌≢◌, ℕ, ◌-◌, ◌≤◌, ◌<◌, List, [], ◌∷◌, ◌++◌, length, take, Bool, true, false, Option, None, Some, Result, Ok, Err, IsErr, IsOk, refl, sym, ap, ◌∙◌, subst, ◌⊎◌, inl, inr, ⊎_elim, is_some, option_map, bytes_eq, arith}
 use Rattle.std.proofs.lemmas.Slice.Eq.{bytes_eq-Decides}
 use Rattle.std.specs.Prelude.{IfErr, IsErrOf, slice_get}
 use Rattle.std.specs.List.{AllByRecursion}
@@ -403,8 +403,9 @@ module _ (before : UserState) (ready : IsReady before) (sound : IsSound before) 
           let stands = damaged_stands name told told_is in
           looked_stood old mid new before ready turn failed 1 (TellsView before.account tree (Ok view)) l e.edits.steps
           e.edits.runs few told tt stands.0 stands.1
-          (λ contents user keys fits holds end fold. e.refused name is contents end
-          (settled_now before ready contents user keys fits).kept.clear
+          (λ contents user keys fits holds end fold. (e.refused (subst IsErr (sym is) refl) (λ f.
+          let z : ◌≡◌ {A = Result TryAnswer StoreFault} (Err (faults.Damaged name)) (Err faults.Failed) = sym is ∙ f in
+          cc z)).same contents end (settled_now before ready contents user keys fits).kept.clear
           (subst (λ (era : Era). Fold (Does era) contents e.edits.steps end) (sym l.runs.era) fold))
 
   -- ---- the try that was made

@@ -332,8 +332,9 @@ module _ (before : UserState) (ready : IsReady before) (sound : IsSound before) 
           let stands = damaged_stands name answer is in
           looked_stood old mid new before ready turn failed 1 (TellsView before.account tree (Ok view)) l e.edits.steps
           e.edits.runs few answer tt stands.0 stands.1
-          (λ contents user keys fits holds end fold. e.refused name refl contents end
-          (settled_now before ready contents user keys fits).kept.clear
+          (λ contents user keys fits holds end fold. (e.refused refl (λ f.
+          let z : ◌≡◌ {A = Result (Unit {0}) StoreFault} (Err (faults.Damaged name)) (Err faults.Failed) = f in
+          cc z)).same contents end (settled_now before ready contents user keys fits).kept.clear
           (subst (λ (era : Era). Fold (Does era) contents e.edits.steps end) (sym l.runs.era) fold))
       by_result (Err faults.NoMemory) e few frames only answer is = absurd only
       by_result (Err (faults.TreeLost host chip)) e few frames only answer is = absurd only

@@ -3,3 +3,4 @@ pub mod Endings
 pub mod Looking
 pub mod Resetting
 pub mod Trying
+pub mod Setting

@@ -1,10 +1,12 @@
 //! A PIN's leaf is looked at before a step on it.
 
-ghost use Rattle.std.specs.Prelude.{◌≡◌, ◌≤◌, ◌+◌, IsTrue, IfErr, IsErrOf, None};
+ghost use Rattle.std.specs.Prelude.{◌≡◌, ◌≤◌, ◌+◌, IsTrue, IfErr, IsErrOf, IsOk, None};
 ghost use Rattle.record_names.specs.Names.{is_account_name};
 ghost use Rattle.home_edits.specs.Edits.{told_fault};
 ghost use Rattle.turn_secrets.specs.Listing.{Looks};
+ghost use Rattle.turn_edits.specs.Endings.{MadeFailed};
 ghost use Rattle.turn_pins.specs.Looking.{view_told, TellsView, IsLookFault, IsRefusal};
+ghost use Rattle.turn_pins.specs.Setting.{IsRenewFault};
 ghost use Rattle.account_machine.specs.declared.answer.Answer.TheVariants as answers;
 ghost use Rattle.std.specs.Prelude.{◌⊎◌};
 
@@ -56,6 +58,8 @@ pub(crate) fn look<S: Share>(
     ensures looks { Looks (S.seen share.old) (S.seen share.new) (IsErrOf result StoreFault.Failed) 1
         (TellsView account.now tree result) }
     ensures only { IfErr result IsLookFault }
+    ensures named { IfErr result (IsRenewFault account.now tree) }
+    ensures quiet { IsOk result → MadeFailed (S.seen share.old) (S.seen share.new) → ⊥ }
     ensures spare { (S.seen share.old).spare ≤ (S.seen share.new).spare + 1 }
     ensures whole { (S.seen share.new).lost ≡ None }
     ensures goes { S.goes share.old share.new }
