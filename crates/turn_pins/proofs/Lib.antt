@@ -9,3 +9,6 @@ pub mod PinEnds
 pub mod PinGiven
 pub mod PinSetting
 pub mod PinSetEnds
+pub mod FirstCounted
+pub mod NoPins
+pub mod PinsCleared

@@ -1,5 +1,5 @@
 -- How a turn that sets a PIN ends, by the edit's result.
-use Rattle.std.proofs.Common.{◌≡◌, ◌⊎◌, ⊎_elim, ℕ, List, [], ◌∷◌, ◌++◌, Option, None, Some, Result, Ok, Err, IsErr, OnErr, refl, sym, ap, ◌∙◌, subst, inl, inr, is_some, true≢false}
+use Rattle.std.proofs.Common.{◌≡◌, ◌⊎◌, ⊎_elim, ℕ, List, [], ◌∷◌, ◌++◌, None, Result, Ok, Err, IsErr, refl, sym, ap, ◌∙◌, subst, inr, true≢false}
 use Rattle.std.specs.Prelude.{IfErr}
 use Rattle.std.specs.List.{AllByRecursion}
 use Rattle.account_machine.specs.declared.answer.Answer.{Answer}
@@ -10,7 +10,6 @@ use Rattle.home_edits.specs.Costs.{HasCost, PutsCost}
 use Rattle.home_edits.proofs.CostLemmas.{same_rest}
 use Rattle.home_recovery.specs.Reading.{IsReadOp, AreReads}
 use Rattle.pin_edits.specs.Pins.{EditsPin, ComesToNothing}
-use Rattle.random_values.specs.Stretches.{Place}
 use Rattle.share_api.specs.Contents.{Bytes, Contents}
 use Rattle.share_api.specs.Places.{steps_of}
 use Rattle.share_api.specs.Seen.{ShareSeen, Runs, HasFailed}
@@ -20,11 +19,6 @@ use Rattle.stored_home.specs.Holds.{Keys}
 use Rattle.stored_home.specs.declared.fault.StoreFault.{StoreFault}
 use Rattle.stored_home.specs.declared.fault.StoreFault.TheVariants as faults
 use Rattle.stored_home.specs.declared.stored.Stored.{Stored}
-use Rattle.user_state.specs.Sound.{IsTellable}
-use Rattle.user_state.specs.declared.state.Doubt.{Doubt}
-use Rattle.user_state.specs.declared.state.Doubt.TheVariants.{Editions}
-use Rattle.user_state.specs.declared.state.UserState.{UserState}
-use Rattle.turn_edits.specs.Endings.{doubt_of, IsEnded, IsEditions, IsTried}
 use Rattle.turn_edits.proofs.EndingLemmas.{made_failed, none_failed}
 use Rattle.turn_pins.specs.Endings.{IsPinCaused}
 use Rattle.turn_pins.specs.Looking.{IsRefusal}

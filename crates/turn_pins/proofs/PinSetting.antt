@@ -4,22 +4,19 @@ use Rattle.std.proofs.lemmas.Bool.{eqb-false, eqb-true, leb-false}
 use Rattle.std.proofs.lemmas.List.Elements.{recursion_from_All}
 use Rattle.std.specs.Prelude.{IfSome, IsSome, IsSomeAnd, IsTrue, nat_le, ◌&&◌, ◌||◌, map, count_by, option_map, option_and_then}
 use Rattle.std.specs.List.{AllByRecursion}
-use Rattle.std.specs.Ordering.{nat_cmp}
-use Rattle.std.specs.Cmp.Lexicographic.{slice_cmp}
-use Rattle.std.specs.FinMap.{FinMap, get, insert, len, entries, values, len-entries}
+use Rattle.std.specs.FinMap.{FinMap, get, insert, len, entries, len-entries}
 use Rattle.name_map.specs.Mapped.{map_values}
 use Rattle.name_map.proofs.MappedLemmas.{get-map_values, len-map_values, entries-map_values}
 use Rattle.pw_types.specs.declared.era.Era.{Era}
 use Rattle.account_machine.specs.Effect.{gives, with_factor, new_factor, schedule_of}
-use Rattle.account_machine.specs.Outline.{Marks, Outline, is_pin_kind, pins, session_at}
-use Rattle.account_machine.specs.Row.{turn_refusals, turn_names_tree, is_full, is_pin_mark, is_not_authorised}
+use Rattle.account_machine.specs.Outline.{Marks, is_pin_kind, pins, session_at}
+use Rattle.account_machine.specs.Row.{turn_refusals, turn_names_tree, is_pin_mark, is_not_authorised}
 use Rattle.account_machine.specs.Sessions.{changed}
 use Rattle.account_machine.specs.Step.{refusal_now}
 use Rattle.account_machine.specs.User.{mark_of, outline_of}
 use Rattle.account_machine.specs.declared.answer.Answer.TheVariants as answers
 use Rattle.account_machine.specs.declared.factor.Factor.{Factor}
-use Rattle.account_machine.specs.declared.factor.Kind.{Kind}
-use Rattle.account_machine.specs.declared.factor.Kind.TheVariants.{Password, Pin}
+use Rattle.account_machine.specs.declared.factor.Kind.TheVariants.{Pin}
 use Rattle.account_machine.specs.declared.factor.Mark.{Mark}
 use Rattle.account_machine.specs.declared.request.Request.TheVariants.{AddFactor, UpdateFactor}
 use Rattle.account_machine.specs.declared.request.Turn.{Turn}
@@ -50,19 +47,18 @@ use Rattle.user_state.specs.Fits.{Fits, is_lost}
 use Rattle.user_state.specs.Outlines.{next_in, mark_in, outline_in}
 use Rattle.user_state.specs.Sound.{IsSound}
 use Rattle.user_state.specs.declared.state.UserState.{UserState}
-use Rattle.user_state.proofs.OutlineLemmas.{same_outline}
 use Rattle.turn_rows.specs.Due.{IsReady, IsDue}
 use Rattle.turn_rows.proofs.Quiet.{row_by, as_user}
 use Rattle.turn_edits.specs.Sessions.{main_in}
 use Rattle.turn_edits.proofs.EditGiven.{OwesTold}
-use Rattle.turn_edits.proofs.Factors.{order, mapped_put, made_of, is_made, none_made, few_with, len_some, own_stash, payload_there, as_many}
+use Rattle.turn_edits.proofs.Factors.{order, mapped_put, is_made, none_made, few_with, len_some, own_stash, payload_there, as_many}
 use Rattle.turn_edits.proofs.Held.{held_beside, stash_by}
 use Rattle.turn_edits.proofs.Keyed.{main_there, main_is}
 use Rattle.turn_edits.proofs.Setting.{edition_left}
 use Rattle.turn_edits.proofs.Tallies.{edition_told}
 use Rattle.turn_edits.proofs.Tests.{applies_at, test_at}
 use Rattle.turn_pins.specs.Pins.{IsPinAt}
-use Rattle.turn_pins.proofs.LoadedPins.{its_block, its_pin, shown, home_there, label_is}
+use Rattle.turn_pins.proofs.LoadedPins.{its_block, its_pin, shown, label_is}
 use Rattle.turn_pins.proofs.Removing.{kinds_apart}
 
 not_not : (b : Bool) → not b ≡ false → b ≡ true
@@ -86,7 +82,7 @@ itself None = tt
 itself (Some x) = refl
 
 -- where a map isn't empty, something is there
-some_there : {V : Type 0} (m : FinMap order V) → 1 ≤ len m → (name : Bytes) × (x : V) × (get m name ≡ Some x)
+pub some_there : {V : Type 0} (m : FinMap order V) → 1 ≤ len m → (name : Bytes) × (x : V) × (get m name ≡ Some x)
 some_there {V} m some = by (entries m) (len-entries m)
     (recursion_from_All (λ (e : Bytes × V). get m e.0 ≡ Some e.1) (entries m)
     (Everywhere-entries (λ name x. get m name ≡ Some x) m (λ name. itself (get m name))))

@@ -6,7 +6,7 @@ use Rattle.name_map.specs.Mapped.{map_values}
 use Rattle.account_machine.specs.Effect.{gives, cleared, set_factor}
 use Rattle.account_machine.specs.Outline.{Marks, is_pin_kind}
 use Rattle.account_machine.specs.Row.{turn_refusals, turn_names_tree, is_pin_mark}
-use Rattle.account_machine.specs.Step.{Row, IsStandIn, by_row, unsettles}
+use Rattle.account_machine.specs.Step.{Row, MayFail, IsStandIn, by_row, unsettles}
 use Rattle.account_machine.specs.declared.answer.Answer.{Answer}
 use Rattle.account_machine.specs.declared.answer.Answer.TheVariants as answers
 use Rattle.account_machine.specs.declared.factor.Factor.{Factor}
@@ -99,7 +99,7 @@ reset_frames era moment tree secret (Err (shares.Damaged name)) contents mid l =
 reset_frames era moment tree secret (Err shares.NoMemory) contents mid l = ap (λ (c : Contents). c.records) l
 
 -- of which fault it may be, where the tree isn't lost
-reset_only : (name : Bytes) (tree : ℕ) (tried : Result Bool ShareFault) (lost : Option (Bytes × Bytes))
+pub reset_only : (name : Bytes) (tree : ℕ) (tried : Result Bool ShareFault) (lost : Option (Bytes × Bytes))
     → IfErr tried (IsTryFault tree) → TellsLoss lost tried → lost ≡ None → IfErr (told_reset name tried) IsLookFault
 reset_only name tree (Ok true) lost only tells whole = tt
 reset_only name tree (Ok false) lost only tells whole = tt
@@ -164,6 +164,200 @@ pub none_of : {A : Type 0} (o : Option A) → is_some o ≡ false → o ≡ None
 none_of None e = refl
 none_of (Some x) e = absurd (true≢false e)
 
+-- how a turn is answered whose reset ended so, where this answer says that it was done
+abbrev pub IsEndAnswer : Answer → Result (Unit {0}) StoreFault → Answer → Type 0
+IsEndAnswer good (Ok u) answer = answer ≡ good
+IsEndAnswer good (Err fault) answer = IsToldAnswer (Err fault) answer
+
+-- a PIN is set back by a turn that looked at its leaf
+module _ (before : UserState) (ready : IsReady before) (token : Token) (label : Bytes) (stash : Stash)
+    (stash_is : before.stored.stash ≡ Some stash) (row : FactorRecord) (at : get before.stored.factors label ≡ Some row)
+    (tree : ℕ) (names : row.leaf ≡ Some tree) (whole : before.stored.lost ≡ None) (main : Bytes)
+    (proved : main_in before.sessions.kept token ≡ Some main) where
+  -- ---- over contents
+
+  module _ (contents : Contents) (user : User) (keys : Keys) (fits : Fits before contents user keys)
+      (holds : HoldsUnder (is_lost before) contents before.account user.durable keys) where
+    abbrev pub its : Factor
+    its = (its_pin before ready whole label row at tree names contents user keys fits holds).pin.of.factor
+
+    pub there : get user.durable.factors label ≡ Some its
+    there = (its_pin before ready whole label row at tree names contents user keys fits holds).pin.of.held
+
+    abbrev pub set_back : Durable
+    set_back = durable_set user.durable label (cleared its)
+
+    begun : (lost : Bool) → lost ≡ is_lost before
+        → Starts lost before.account before.stored (ResetsPin label main) contents keys user.durable set_back
+    begun lost same = record {
+      holds = subst (λ (l : Bool). HoldsUnder l contents before.account user.durable keys) (sym same) holds;
+      kept = subst (λ (l : Bool). IsKept l contents before.account before.stored) (sym same)
+          (settled_now before ready contents user keys fits).kept;
+      asked = record {
+        main_is = main_is before.sessions.kept token main keys.main fits.has_keys.proved proved;
+        factor = its;
+        held = there;
+        after_is = refl;
+      };
+    }
+
+  -- ---- the turn, by how the reset ended
+
+  module _ (turn : Turn) (may : MayFail turn) (good : Answer) (good_calm : good ≢ answers.StorageFault)
+      (old mid new : ShareSeen) (lost : is_some old.lost ≡ is_lost before) (view : LeafView) (failed : Type 0) (most : ℕ)
+      (P : Contents → Type 0) (l : Looks old mid failed most P)
+      (shows : (contents : Contents) → P contents → TellsView before.account tree (Ok view) contents)
+      (back_row : (contents : Contents) (user : User) (keys : Keys) (fits : Fits before contents user keys)
+      (holds : HoldsUnder (is_lost before) contents before.account user.durable keys) → P contents
+      → Row old.era user turn good (record user { durable = set_back contents user keys fits holds })) where
+    abbrev doubt : Doubt
+    doubt = Leaf label tree view
+
+    abbrev ended : Result (Unit {0}) StoreFault → UserState
+    ended r = record before { doubt = doubt_of doubt before.doubt r }
+
+    mid_lost : is_some mid.lost ≡ is_lost before
+    mid_lost = ap is_some l.runs.lost ∙ lost
+
+    by_result : (r : Result (Unit {0}) StoreFault)
+        (e : EditsByReset mid new before.account before.stored label main r) → length e.edits.steps ≤ 1
+        → ((contents end : Contents) → contents.doubt ≡ None → Fold (Does mid.era) contents e.edits.steps end
+        → end.records ≡ contents.records)
+        → IfErr r IsLookFault → (answer : Answer) → IsEndAnswer good r answer
+        → IsGiven old new before (ended r) turn answer
+    by_result (Ok u) e few frames only answer is = subst (IsGiven old new before (ended (Ok u)) turn) (sym is)
+        (looked_given old mid new before ready turn failed most P l e.edits.steps
+        e.edits.runs few good (ended (Ok u)) (λ k. absurd (good_calm k))
+        (record { account = refl; cost = refl; lost = refl })
+        (λ seen contents user keys p told end fold.
+        let s = settled_now before ready contents user keys p.fits in
+        let starts = begun contents user keys p.fits p.holds (is_some mid.lost) mid_lost in
+        let next = set_back contents user keys p.fits p.holds in
+        let f : Fold (Does mid.era) contents e.edits.steps end =
+        subst (λ (era : Era). Fold (Does era) contents e.edits.steps end) (sym l.runs.era) fold in
+        record {
+          next = record user { durable = next };
+          keys = keys;
+          allowed = by_row (back_row contents user keys p.fits p.holds told);
+          fits = record {
+            sessions = p.fits.sessions;
+            next_session = p.fits.next_session;
+            mounted = p.fits.mounted;
+            last = p.fits.last;
+            stands = stands_settled before ready (ended (Ok u)) end (record user { durable = next }) refl (record {
+              none = s.none;
+              kept = subst (λ (x : Bool). IsKept x end before.account before.stored) mid_lost
+                  (e.edits.loaded refl contents keys user.durable next starts end f);
+              files = s.files;
+            });
+            has_keys = record { proved = p.fits.has_keys.proved; mount = p.fits.has_keys.mount };
+          };
+          holds = inl (subst (λ (x : Bool). HoldsUnder x end before.account next keys) mid_lost
+              ((e.edits.atomic contents keys user.durable next starts).last refl end f));
+          idle = λ none. absurd (e.edits.made refl (append_none l.steps e.edits.steps none));
+        }))
+    by_result (Err faults.Failed) e few frames only answer is =
+        subst (IsGiven old new before (ended (Err faults.Failed)) turn) (sym is)
+        (looked_given old mid new before ready turn failed most P l e.edits.steps
+        e.edits.runs few answers.StorageFault (ended (Err faults.Failed))
+        (λ _. failed_either l.steps e.edits.steps (inr (e.edits.fails refl)))
+        (record { account = refl; cost = refl; lost = refl })
+        (λ seen contents user keys p told end fold.
+        let s = settled_now before ready contents user keys p.fits in
+        let starts = begun contents user keys p.fits p.holds (is_some mid.lost) mid_lost in
+        let next = set_back contents user keys p.fits p.holds in
+        let factor = its contents user keys p.fits p.holds in
+        let f : Fold (Does mid.era) contents e.edits.steps end =
+        subst (λ (era : Era). Fold (Does era) contents e.edits.steps end) (sym l.runs.era) fold in
+        record {
+          next = record user { other = Some next };
+          keys = keys;
+          allowed = unsettles (record {
+            may = may;
+            fault = refl;
+            due = good;
+            done = record user { durable = next };
+            row = back_row contents user keys p.fits p.holds told;
+            after_is = refl;
+          });
+          fits = record {
+            sessions = p.fits.sessions;
+            next_session = p.fits.next_session;
+            mounted = p.fits.mounted;
+            last = p.fits.last;
+            stands = record {
+              other = next;
+              other_is = refl;
+              tells = leaf_tells before ready whole label row at tree names contents user keys p.fits p.holds view
+                  (shows contents told) end (frames contents end s.kept.clear f) (cleared factor)
+                  (its_pin before ready whole label row at tree names contents user keys p.fits p.holds).pin.is_pin
+                  refl next (put_at user.durable.factors label (cleared factor))
+                  (cleared_apart user.durable label factor (there contents user keys p.fits p.holds));
+            };
+            has_keys = record { proved = p.fits.has_keys.proved; mount = p.fits.has_keys.mount };
+          };
+          holds = subst (λ (x : Bool). HoldsEither x before.account keys user.durable next end) mid_lost
+              (throughout_end (Does mid.era) (HoldsEither (is_some mid.lost) before.account keys user.durable next)
+              contents end e.edits.steps (e.edits.atomic contents keys user.durable next starts).throughout f);
+          idle = λ none. absurd (subst HasFailed (append_none l.steps e.edits.steps none) (e.edits.fails refl));
+        }))
+    by_result (Err (faults.Damaged name)) e few frames only answer is =
+        let stands = damaged_stands name answer is in
+        looked_stood old mid new before ready turn failed most P l e.edits.steps
+        e.edits.runs few answer may stands.0 stands.1
+        (λ contents user keys fits holds end fold. (e.refused refl (λ f.
+        let z : ◌≡◌ {A = Result (Unit {0}) StoreFault} (Err (faults.Damaged name)) (Err faults.Failed) = f in
+        cc z)).same contents end (settled_now before ready contents user keys fits).kept.clear
+        (subst (λ (era : Era). Fold (Does era) contents e.edits.steps end) (sym l.runs.era) fold))
+    by_result (Err faults.NoMemory) e few frames only answer is = absurd only
+    by_result (Err (faults.TreeLost host chip)) e few frames only answer is = absurd only
+
+  -- ---- the reset that was made
+
+  module _ (turn : Turn) (may : MayFail turn) (good : Answer) (good_calm : good ≢ answers.StorageFault)
+      (reset : Reset) (made_so : IsResetMade before.stored label main reset) (label_same : reset.label ≡ label)
+      (old new : ShareSeen) (lost : is_some old.lost ≡ is_lost before) (share_whole : old.lost ≡ None) where
+    same_tree : reset.tree ≡ tree
+    same_tree = from_some reset.tree tree
+        (sym (made_so row stash at stash_is).names ∙ names)
+
+    -- where the leaf could be seen: what was looked at before it, and that it was so, tell the row
+    pub seen_given : (mid : ShareSeen) (view : LeafView) (failed : Type 0) (most : ℕ) (P : Contents → Type 0)
+        (after : UserState) (raw answer : Answer) → Looks old mid failed most P
+        → ((contents : Contents) → P contents → TellsView before.account reset.tree (Ok view) contents)
+        → ((contents : Contents) (user : User) (keys : Keys) (fits : Fits before contents user keys)
+        (holds : HoldsUnder (is_lost before) contents before.account user.durable keys) → P contents
+        → Row old.era user turn good (record user { durable = set_back contents user keys fits holds }))
+        → ((r : Result (Unit {0}) StoreFault) → IsToldAnswer r raw → IsEndAnswer good r answer)
+        → ResetEnds mid new reset view before after raw
+        → IsGiven old new before after turn answer
+    seen_given mid view failed most P after raw answer l shows back_row ending e =
+        let mid_whole : mid.lost ≡ None = l.runs.lost ∙ share_whole in
+        let step : Step = step_of mid before.last (ResetLeaf reset.tree reset.secret) (fits_reply e.tried) in
+        let edits : EditsByReset mid new before.account before.stored label main (told_reset reset.name e.tried) =
+        reset_edits before.account before.stored label row at stash stash_is reset.tree main reset.secret
+        (made_so row stash at stash_is) mid before.last reset.name e.tried new
+        (told_reset reset.name e.tried) (ap is_some mid_whole) e.made refl in
+        let only : edits.edits.steps ≡ step ∷ [] = only_step mid new edits.edits.steps step edits.edits.runs e.made in
+        subst (λ (s : UserState). IsGiven old new before s turn answer)
+        (sym (e.after_is ∙ (λ i. record before {
+          doubt = doubt_of (Leaf (label_same i) (same_tree i) view) before.doubt (told_reset reset.name e.tried);
+        })))
+        (by_result turn may good good_calm old mid new lost view failed most P l
+        (λ contents told. subst (λ (t : ℕ). TellsView before.account t (Ok view) contents) same_tree
+        (shows contents told)) back_row (told_reset reset.name e.tried) edits
+        (subst (λ (s : List Step). length s ≤ 1) (sym only) (omega arith))
+        (λ contents end clear fold.
+        let f : Fold (Does mid.era) contents (step ∷ []) end =
+        subst (λ (s : List Step). Fold (Does mid.era) contents s end) only fold in
+        ap (λ (c : Contents). c.records) f.2
+        ∙ reset_frames mid.era before.last reset.tree reset.secret e.tried
+        (settled contents) f.0 f.1)
+        (reset_only reset.name reset.tree e.tried mid.lost e.only e.lost mid_whole) answer
+        (ending (told_reset reset.name e.tried) e.answered))
+
+-- ---- the row that sets a PIN's count back
+
 module _ (before : UserState) (ready : IsReady before) (sound : IsSound before) (account : Bytes) (token : Token)
     (label : Bytes) (due : IsDue before (Act (ResetPin account token label))) where
   abbrev turn : Turn
@@ -199,195 +393,46 @@ module _ (before : UserState) (ready : IsReady before) (sound : IsSound before) 
 
   module _ (row : FactorRecord) (at : get before.stored.factors label ≡ Some row) (tree : ℕ)
       (names : row.leaf ≡ Some tree) (whole : before.stored.lost ≡ None) (main : Bytes)
-      (proved : main_in before.sessions.kept token ≡ Some main) where
-    -- ---- over contents
+      (proved : main_in before.sessions.kept token ≡ Some main) (reset : Reset)
+      (made_so : IsResetMade before.stored label main reset) (label_same : reset.label ≡ label)
+      (old new : ShareSeen) (lost : is_some old.lost ≡ is_lost before) (share_whole : old.lost ≡ None) where
+    -- what the table gives
+    back_row : (contents : Contents) (user : User) (keys : Keys) (fits : Fits before contents user keys)
+        (holds : HoldsUnder (is_lost before) contents before.account user.durable keys)
+        → Row old.era user turn answers.Ok (record user {
+          durable = set_back before ready token label reset_stash.0 reset_stash.1 row at tree names whole main proved
+              contents user keys fits holds;
+        })
+    back_row contents user keys fits holds = row_by old.era user turn [] answers.Ok (record user {
+      durable = set_back before ready token label reset_stash.0 reset_stash.1 row at tree names whole main proved contents
+          user keys fits holds;
+    }) (as_user before ready contents user keys turn None fits holds due)
+        (ap (option_and_then (λ (f : Factor). gives answers.Ok (set_factor user label (cleared f))))
+        (there before ready token label reset_stash.0 reset_stash.1 row at tree names whole main proved contents user
+        keys fits holds))
 
-    module _ (contents : Contents) (user : User) (keys : Keys) (fits : Fits before contents user keys)
-        (holds : HoldsUnder (is_lost before) contents before.account user.durable keys) where
-      abbrev its : Factor
-      its = (its_pin before ready whole label row at tree names contents user keys fits holds).pin.of.factor
+    by_view : (mid : ShareSeen) (view : Result LeafView StoreFault) (after : UserState) (answer : Answer)
+        → Looks old mid (IsErrOf view faults.Failed) 1 (TellsView before.account reset.tree view)
+        → IfErr view IsLookFault → SeenEnds mid new reset view before after answer
+        → IsGiven old new before after turn answer
+    by_view mid (Ok view) after answer l only e =
+        seen_given before ready token label reset_stash.0 reset_stash.1 row at tree names whole main proved turn tt
+        answers.Ok (λ k. let z : ◌≡◌ {A = Answer} answers.Ok answers.StorageFault = k in cc z) reset made_so label_same
+        old new lost share_whole mid view _ 1 (TellsView before.account reset.tree (Ok view)) after answer answer l
+        (λ contents told. told) (λ contents user keys fits holds told. back_row contents user keys fits holds)
+        (λ r told. ended_ok r told) e
+      where
+        ended_ok : (r : Result (Unit {0}) StoreFault) → IsToldAnswer r answer → IsEndAnswer answers.Ok r answer
+        ended_ok (Ok u) told = told
+        ended_ok (Err fault) told = told
+    by_view mid (Err fault) after answer l only e =
+        let stands = refusal_stands fault answer only e.2 in
+        subst (λ (t : ShareSeen × UserState). IsGiven old t.0 before t.1 turn answer)
+        (λ i. (sym e.0 i, sym e.1 i))
+        (looked_stood old mid mid before ready turn _ 1 (TellsView before.account reset.tree (Err fault)) l []
+        (runs_none mid) (omega arith) answer tt stands.0 stands.1 (λ contents user keys fits holds end fold. fold))
 
-      there : get user.durable.factors label ≡ Some its
-      there = (its_pin before ready whole label row at tree names contents user keys fits holds).pin.of.held
-
-      abbrev set_back : Durable
-      set_back = durable_set user.durable label (cleared its)
-
-      back_row : (era : Era) → Row era user turn answers.Ok (record user { durable = set_back })
-      back_row era = row_by era user turn [] answers.Ok (record user { durable = set_back })
-          (as_user before ready contents user keys turn None fits holds due)
-          (ap (option_and_then (λ (f : Factor). gives answers.Ok (set_factor user label (cleared f)))) there)
-
-      begun : (lost : Bool) → lost ≡ is_lost before
-          → Starts lost before.account before.stored (ResetsPin label main) contents keys user.durable set_back
-      begun lost same = record {
-        holds = subst (λ (l : Bool). HoldsUnder l contents before.account user.durable keys) (sym same) holds;
-        kept = subst (λ (l : Bool). IsKept l contents before.account before.stored) (sym same)
-            (settled_now before ready contents user keys fits).kept;
-        asked = record {
-          main_is = main_is before.sessions.kept token main keys.main fits.has_keys.proved proved;
-          factor = its;
-          held = there;
-          after_is = refl;
-        };
-      }
-
-    -- ---- the turn, by how the reset ended
-
-    module _ (old mid new : ShareSeen) (lost : is_some old.lost ≡ is_lost before) (view : LeafView) (failed : Type 0)
-        (l : Looks old mid failed 1 (TellsView before.account tree (Ok view))) where
-      abbrev doubt : Doubt
-      doubt = Leaf label tree view
-
-      abbrev ended : Result (Unit {0}) StoreFault → UserState
-      ended r = record before { doubt = doubt_of doubt before.doubt r }
-
-      mid_lost : is_some mid.lost ≡ is_lost before
-      mid_lost = ap is_some l.runs.lost ∙ lost
-
-      by_result : (r : Result (Unit {0}) StoreFault)
-          (e : EditsByReset mid new before.account before.stored label main r) → length e.edits.steps ≤ 1
-          → ((contents end : Contents) → contents.doubt ≡ None → Fold (Does mid.era) contents e.edits.steps end
-          → end.records ≡ contents.records)
-          → IfErr r IsLookFault → (answer : Answer) → IsToldAnswer r answer
-          → IsGiven old new before (ended r) turn answer
-      by_result (Ok u) e few frames only answer is = subst (IsGiven old new before (ended (Ok u)) turn) (sym is)
-          (looked_given old mid new before ready turn failed 1 (TellsView before.account tree (Ok view)) l e.edits.steps
-          e.edits.runs few answers.Ok (ended (Ok u))
-          (λ k. let z : ◌≡◌ {A = Answer} answers.Ok answers.StorageFault = k in absurd (cc z))
-          (record { account = refl; cost = refl; lost = refl })
-          (λ seen contents user keys p told end fold.
-          let s = settled_now before ready contents user keys p.fits in
-          let starts = begun contents user keys p.fits p.holds (is_some mid.lost) mid_lost in
-          let next = set_back contents user keys p.fits p.holds in
-          let f : Fold (Does mid.era) contents e.edits.steps end =
-          subst (λ (era : Era). Fold (Does era) contents e.edits.steps end) (sym l.runs.era) fold in
-          record {
-            next = record user { durable = next };
-            keys = keys;
-            allowed = by_row (back_row contents user keys p.fits p.holds old.era);
-            fits = record {
-              sessions = p.fits.sessions;
-              next_session = p.fits.next_session;
-              mounted = p.fits.mounted;
-              last = p.fits.last;
-              stands = stands_settled before ready (ended (Ok u)) end (record user { durable = next }) refl (record {
-                none = s.none;
-                kept = subst (λ (x : Bool). IsKept x end before.account before.stored) mid_lost
-                    (e.edits.loaded refl contents keys user.durable next starts end f);
-                files = s.files;
-              });
-              has_keys = record { proved = p.fits.has_keys.proved; mount = p.fits.has_keys.mount };
-            };
-            holds = inl (subst (λ (x : Bool). HoldsUnder x end before.account next keys) mid_lost
-                ((e.edits.atomic contents keys user.durable next starts).last refl end f));
-            idle = λ none. absurd (e.edits.made refl (append_none l.steps e.edits.steps none));
-          }))
-      by_result (Err faults.Failed) e few frames only answer is =
-          subst (IsGiven old new before (ended (Err faults.Failed)) turn) (sym is)
-          (looked_given old mid new before ready turn failed 1 (TellsView before.account tree (Ok view)) l e.edits.steps
-          e.edits.runs few answers.StorageFault (ended (Err faults.Failed))
-          (λ _. failed_either l.steps e.edits.steps (inr (e.edits.fails refl)))
-          (record { account = refl; cost = refl; lost = refl })
-          (λ seen contents user keys p told end fold.
-          let s = settled_now before ready contents user keys p.fits in
-          let starts = begun contents user keys p.fits p.holds (is_some mid.lost) mid_lost in
-          let next = set_back contents user keys p.fits p.holds in
-          let factor = its contents user keys p.fits p.holds in
-          let f : Fold (Does mid.era) contents e.edits.steps end =
-          subst (λ (era : Era). Fold (Does era) contents e.edits.steps end) (sym l.runs.era) fold in
-          record {
-            next = record user { other = Some next };
-            keys = keys;
-            allowed = unsettles (record {
-              may = tt;
-              fault = refl;
-              due = answers.Ok;
-              done = record user { durable = next };
-              row = back_row contents user keys p.fits p.holds old.era;
-              after_is = refl;
-            });
-            fits = record {
-              sessions = p.fits.sessions;
-              next_session = p.fits.next_session;
-              mounted = p.fits.mounted;
-              last = p.fits.last;
-              stands = record {
-                other = next;
-                other_is = refl;
-                tells = leaf_tells before ready whole label row at tree names contents user keys p.fits p.holds view
-                    told end (frames contents end s.kept.clear f) (cleared factor)
-                    (its_pin before ready whole label row at tree names contents user keys p.fits p.holds).pin.is_pin
-                    refl next (put_at user.durable.factors label (cleared factor))
-                    (cleared_apart user.durable label factor (there contents user keys p.fits p.holds));
-              };
-              has_keys = record { proved = p.fits.has_keys.proved; mount = p.fits.has_keys.mount };
-            };
-            holds = subst (λ (x : Bool). HoldsEither x before.account keys user.durable next end) mid_lost
-                (throughout_end (Does mid.era) (HoldsEither (is_some mid.lost) before.account keys user.durable next)
-                contents end e.edits.steps (e.edits.atomic contents keys user.durable next starts).throughout f);
-            idle = λ none. absurd (subst HasFailed (append_none l.steps e.edits.steps none) (e.edits.fails refl));
-          }))
-      by_result (Err (faults.Damaged name)) e few frames only answer is =
-          let stands = damaged_stands name answer is in
-          looked_stood old mid new before ready turn failed 1 (TellsView before.account tree (Ok view)) l e.edits.steps
-          e.edits.runs few answer tt stands.0 stands.1
-          (λ contents user keys fits holds end fold. (e.refused refl (λ f.
-          let z : ◌≡◌ {A = Result (Unit {0}) StoreFault} (Err (faults.Damaged name)) (Err faults.Failed) = f in
-          cc z)).same contents end (settled_now before ready contents user keys fits).kept.clear
-          (subst (λ (era : Era). Fold (Does era) contents e.edits.steps end) (sym l.runs.era) fold))
-      by_result (Err faults.NoMemory) e few frames only answer is = absurd only
-      by_result (Err (faults.TreeLost host chip)) e few frames only answer is = absurd only
-
-    -- ---- the reset that was made
-
-    module _ (reset : Reset) (made_so : IsResetMade before.stored label main reset) (label_same : reset.label ≡ label)
-        (old new : ShareSeen) (lost : is_some old.lost ≡ is_lost before) (share_whole : old.lost ≡ None) where
-      same_tree : reset.tree ≡ tree
-      same_tree = from_some reset.tree tree
-          (sym (made_so row reset_stash.0 at reset_stash.1).names ∙ names)
-
-      seen_given : (mid : ShareSeen) (view : LeafView) (failed : Type 0) (after : UserState) (answer : Answer)
-          → Looks old mid failed 1 (TellsView before.account reset.tree (Ok view))
-          → ResetEnds mid new reset view before after answer
-          → IsGiven old new before after turn answer
-      seen_given mid view failed after answer l e =
-          let looks : Looks old mid failed 1 (TellsView before.account tree (Ok view)) =
-          subst (λ (t : ℕ). Looks old mid failed 1 (TellsView before.account t (Ok view))) same_tree l in
-          let mid_whole : mid.lost ≡ None = l.runs.lost ∙ share_whole in
-          let step : Step = step_of mid before.last (ResetLeaf reset.tree reset.secret) (fits_reply e.tried) in
-          let edits : EditsByReset mid new before.account before.stored label main (told_reset reset.name e.tried) =
-          reset_edits before.account before.stored label row at reset_stash.0 reset_stash.1 reset.tree main reset.secret
-          (made_so row reset_stash.0 at reset_stash.1) mid before.last reset.name e.tried new
-          (told_reset reset.name e.tried) (ap is_some mid_whole) e.made refl in
-          let only : edits.edits.steps ≡ step ∷ [] = only_step mid new edits.edits.steps step edits.edits.runs e.made in
-          subst (λ (s : UserState). IsGiven old new before s turn answer)
-          (sym (e.after_is ∙ (λ i. record before {
-            doubt = doubt_of (Leaf (label_same i) (same_tree i) view) before.doubt (told_reset reset.name e.tried);
-          })))
-          (by_result old mid new lost view failed looks (told_reset reset.name e.tried) edits
-          (subst (λ (s : List Step). length s ≤ 1) (sym only) (omega arith))
-          (λ contents end clear fold.
-          let f : Fold (Does mid.era) contents (step ∷ []) end =
-          subst (λ (s : List Step). Fold (Does mid.era) contents s end) only fold in
-          ap (λ (c : Contents). c.records) f.2
-          ∙ reset_frames mid.era before.last reset.tree reset.secret e.tried
-          (settled contents) f.0 f.1)
-          (reset_only reset.name reset.tree e.tried mid.lost e.only e.lost mid_whole) answer e.answered)
-
-      by_view : (mid : ShareSeen) (view : Result LeafView StoreFault) (after : UserState) (answer : Answer)
-          → Looks old mid (IsErrOf view faults.Failed) 1 (TellsView before.account reset.tree view)
-          → IfErr view IsLookFault → SeenEnds mid new reset view before after answer
-          → IsGiven old new before after turn answer
-      by_view mid (Ok view) after answer l only e = seen_given mid view _ after answer l e
-      by_view mid (Err fault) after answer l only e =
-          let stands = refusal_stands fault answer only e.2 in
-          subst (λ (t : ShareSeen × UserState). IsGiven old t.0 before t.1 turn answer)
-          (λ i. (sym e.0 i, sym e.1 i))
-          (looked_stood old mid mid before ready turn _ 1 (TellsView before.account reset.tree (Err fault)) l []
-          (runs_none mid) (omega arith) answer tt stands.0 stands.1 (λ contents user keys fits holds end fold. fold))
-
-      -- the row's turn
-      pub held_given : (after : UserState) (answer : Answer) → ResetHeld old new reset before after answer
-          → IsGiven old new before after turn answer
-      held_given after answer h = by_view h.mid h.view after answer h.looks h.only h.ends
+    -- the row's turn
+    pub held_given : (after : UserState) (answer : Answer) → ResetHeld old new reset before after answer
+        → IsGiven old new before after turn answer
+    held_given after answer h = by_view h.mid h.view after answer h.looks h.only h.ends

@@ -4,3 +4,4 @@ pub mod Looking
 pub mod Resetting
 pub mod Trying
 pub mod Setting
+pub mod Clearing

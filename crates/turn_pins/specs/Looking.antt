@@ -49,3 +49,9 @@ abbrev pub IsLeafDoubt : Bytes → Doubt → Type 0
 IsLeafDoubt label Editions = ⊥
 IsLeafDoubt label (File name bytes) = ⊥
 IsLeafDoubt label (Leaf named tree view) = named ≡ label
+
+-- what some leaf showed tells them apart
+abbrev pub IsOfLeaf : Doubt → Type 0
+IsOfLeaf Editions = ⊥
+IsOfLeaf (File name bytes) = ⊥
+IsOfLeaf (Leaf label tree view) = Unit {0}

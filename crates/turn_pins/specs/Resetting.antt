@@ -76,6 +76,7 @@ pub record ResetHeld (old new : ShareSeen) (reset : Reset) (before after : UserS
 pub record IsResetUnder (token : Token) (label : Bytes) (state : UserState) (reset : Reset) : Type 0 where
   pub main : Bytes
   pub main_is : main_in state.sessions.kept token ≡ Some main
+  pub label_is : reset.label ≡ label
   pub made : IsResetMade state.stored label main reset
   pub named : IsResetNamed state.stored state.account label reset
 

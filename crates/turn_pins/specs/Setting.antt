@@ -1,5 +1,5 @@
 -- A PIN is added, or gets another secret.
-use Rattle.std.specs.Prelude.{◌≡◌, ℕ, Option, Some, Result, Ok, Err, List, option_map}
+use Rattle.std.specs.Prelude.{◌≡◌, ℕ, Some, Result, Ok, Err, List, option_map}
 use Rattle.std.specs.FinMap.{get}
 use Rattle.home_recovery.specs.Reading.{AreReads}
 use Rattle.pin_edits.specs.Pins.{ComesToNothing}

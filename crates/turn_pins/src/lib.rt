@@ -2,6 +2,7 @@
 #![tactic(auto)]
 
 mod adding;
+mod clearing;
 mod ending;
 mod keys;
 mod looking;
@@ -14,6 +15,7 @@ mod trying;
 mod updating;
 
 pub use adding::add_pin;
+pub use clearing::clear_pin;
 pub use removal::remove_pin;
 pub use resetting::reset_pin;
 pub use trying::authenticate_pin;

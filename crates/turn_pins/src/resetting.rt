@@ -81,8 +81,13 @@ fn reset_seen<S: Share>(
     told(alloc, &mut state.doubt, ended(tried, name), doubt)
 }
 
-// Looks at the leaf, and resets it.
-fn reset_held<S: Share>(alloc: Global, state: &mut UserState, share: &mut S, reset: Reset) -> Answer
+/// Looks at the leaf, and resets it.
+pub(crate) fn reset_held<S: Share>(
+    alloc: Global,
+    state: &mut UserState,
+    share: &mut S,
+    reset: Reset,
+) -> Answer
     requires plain { IsTrue (is_account_name state.old.account) }
     requires spare { 2 ≤ (S.seen share.old).spare }
     requires moment { state.old.last < 2 ^ 40 }

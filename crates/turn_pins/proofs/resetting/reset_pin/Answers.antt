@@ -102,6 +102,7 @@ returns-in-Ok-clause-resets g c = λ none. inr (
   record {
     main = c.in-Some-main_key.main;
     main_is = sym c.main_key.ensures ∙ c.in-Some-main_key.is;
+    label_is = c.in-Ok.ensures.label;
     made = c.in-Ok.ensures.value;
     named = λ row at. c.in-Ok.ensures.named row at
         ∙ ap (λ (n : List ℕ). factor_name n c.args.label.now row.edition) c.as_str.ensures.value;
