@@ -1,5 +1,5 @@
 -- A clearing where there is no PIN.
-use Rattle.std.proofs.Common.{◌≡◌, ◌≢◌, ℕ, ◌+◌, ◌≤◌, cond, List, [], ◌∷◌, Bool, true, false, Option, None, Some, refl, sym, ap, ◌∙◌, subst, arith}
+use Rattle.std.proofs.Common.{◌≡◌, ℕ, ◌+◌, ◌≤◌, cond, List, [], ◌∷◌, Bool, true, false, None, Some, refl, sym, ap, ◌∙◌, subst, arith}
 use Rattle.std.specs.Prelude.{if◌then◌else◌, ◌==◌}
 use Rattle.std.specs.List.{fold}
 use Rattle.std.specs.FinMap.{entries}
@@ -19,6 +19,8 @@ use Rattle.user_state.specs.declared.state.UserState.{UserState}
 use Rattle.user_state.proofs.OutlineLemmas.{same_outline}
 use Rattle.user_state.proofs.RowLemmas.{pins_marked}
 use Rattle.turn_rows.specs.Due.{IsReady, IsDue}
+use Rattle.user_turn.specs.Acts.{IsMade}
+use Rattle.user_turn.proofs.Moving.{made_still, draws_same}
 use Rattle.turn_rows.proofs.Quiet.{quiet_given, row_by, as_user}
 
 -- how many PINs there are, counted on from a number
@@ -49,7 +51,7 @@ no_counted user none =
     none_counted (entries user.durable.factors) (sym (pins_marked mark_of user.durable.factors) ∙ none)
 
 -- nothing is cleared
-pub clear_given : (state : UserState) → IsReady state → (token : Token) → IsDue state (Clear token)
+clear_given : (state : UserState) → IsReady state → (token : Token) → IsDue state (Clear token)
     → pins (outline_in state).home.marks ≡ 0 → (share : ShareSeen)
     → IsGiven share share state state (Clear token) answers.PinsClear
 clear_given state ready token due none share =
@@ -67,3 +69,10 @@ clear_given state ready token due none share =
       durable = refl;
       other = refl;
     })
+
+pub clear_made : (state : UserState) → IsReady state → (token : Token) → IsDue state (Clear token)
+    → pins (outline_in state).home.marks ≡ 0 → (share : ShareSeen)
+    → IsMade share share state state (Clear token) answers.PinsClear
+clear_made state ready token due none share =
+    made_still share state state (Clear token) answers.PinsClear answers.PinsClear
+    (clear_given state ready token due none share) due refl (refl, refl) (λ name e. cc e) (draws_same state state refl)

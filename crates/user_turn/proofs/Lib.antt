@@ -1,5 +1,9 @@
 pub mod CleanParts
 pub mod Resting
+pub mod MovingParts
+pub mod Telling
+pub mod Moving
+pub mod Moved
 pub mod Turning
 pub mod AtMoments
 pub mod Clearing

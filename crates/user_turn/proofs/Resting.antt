@@ -1,10 +1,10 @@
 -- What a row leaves of a state beside the records: its last moment, and a doubt that can be told.
 use Rattle.std.proofs.Common.{◌≡◌, ◌≢◌, Bool, true, false, Option, None, Some, refl, sym, ap, ◌∙◌, subst, ◌⊎◌, inl, inr, ⊎_elim, true≢false}
-use Rattle.std.specs.Prelude.{IsSomeAnd, IsTrue}
+use Rattle.std.specs.Prelude.{IsSomeAnd}
 use Rattle.account_machine.specs.declared.answer.Answer.{Answer}
 use Rattle.account_machine.specs.declared.answer.Answer.TheVariants as answers
 use Rattle.account_machine.specs.declared.session.Token.{Token}
-use Rattle.record_names.specs.Names.{AreParts, File as OfFile, is_account_name}
+use Rattle.record_names.specs.Names.{AreParts, File as OfFile}
 use Rattle.share_api.specs.Contents.{Bytes}
 use Rattle.share_api.specs.Seen.{ShareSeen}
 use Rattle.user_state.specs.Sound.{IsSound, IsTellable}
@@ -161,7 +161,7 @@ module _ (before after : UserState) (answer : Answer) (keeps : KeepsState before
 
 -- ---- after a list of the factors
 
-listed_so : (answer : Answer) (before : UserState)
+pub listed_so : (answer : Answer) (before : UserState)
     → (after_list answer before ≡ record before { doubt = Some Editions }) ⊎ (after_list answer before ≡ before)
 listed_so answers.Ok before = inr refl
 listed_so (answers.OkEnds ends) before = inr refl

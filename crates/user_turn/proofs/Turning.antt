@@ -13,9 +13,9 @@ use Rattle.account_machine.specs.Step.{Given, Turned, FailsToReload, IsStandIn, 
 use Rattle.home_recovery.specs.Reading.{RunsOver}
 use Rattle.home_recovery.proofs.ReadLemmas.{over_then}
 use Rattle.share_api.specs.Contents.{Bytes, Contents}
-use Rattle.share_api.specs.Folds.{Fold, Throughout}
+use Rattle.share_api.specs.Folds.{Fold}
 use Rattle.share_api.specs.Seen.{ShareSeen, Runs, HasFailed}
-use Rattle.share_api.specs.Steps.{Does, DoesAmong}
+use Rattle.share_api.specs.Steps.{DoesAmong}
 use Rattle.share_api.specs.declared.step.Step.{Step}
 use Rattle.share_api.proofs.FoldLaws.{throughout_end, throughout_append, throughout_weaker, throughout_among, fold_among, fold_split, among_end}
 use Rattle.share_api.proofs.RunLaws.{failed_either}
@@ -31,8 +31,10 @@ use Rattle.user_state.specs.Turns.{IsGiven, KeepsAccount, Turns, HoldsAround, se
 use Rattle.user_state.specs.declared.state.Doubt.{Doubt}
 use Rattle.user_state.specs.declared.state.UserState.{UserState}
 use Rattle.user_state.proofs.OutlineLemmas.{settled_by}
-use Rattle.user_turn.specs.Acts.{IsOneOf, IsTurn, TurnPremises, GivenOver, IsFaultAnswer, IsSteady}
+use Rattle.user_turn.specs.Acts.{IsOneOf, IsTurn, entry_by, TurnPremises, GivenOver, IsFaultAnswer, IsSteady}
 use Rattle.user_turn.proofs.CleanParts.{clean_part, part_secret}
+use Rattle.user_turn.specs.Moves.{Moves, RowMoves}
+use Rattle.user_turn.proofs.Moved.{moves_settled, moves_reloaded, moves_unloaded}
 use Rattle.user_turn.proofs.Resting.{told_none}
 
 -- a turn that may lead to more users
@@ -67,22 +69,26 @@ pub turn_settled : (old new : ShareSeen) (before after : UserState) (turn : Turn
     → before.doubt ≡ None → GivenOver old new before after turn answer
     → IsTurn old new before after turn told_as.Settled answer
 turn_settled old new before after turn answer settled over = record {
-  steps = over.given.steps;
-  runs = runs_over old over.start new over.given.steps over.stocked over.given.runs;
+  steps = over.made.given.steps;
+  runs = runs_over old over.start new over.made.given.steps over.stocked over.made.given.runs;
   settled = (λ _. settled, λ _. refl);
-  fault = over.given.fault;
-  keeps = over.given.keeps;
+  fault = over.made.given.fault;
+  keeps = over.made.given.keeps;
+  moves = λ caller at place. moves_settled old.era before after turn answer over.made.given.steps settled
+      over.made.given.keeps over.made.given.fault
+      (subst (λ (era : Era). RowMoves era before after turn answer over.made.given.steps)
+      (ap (λ (x : ShareSeen). x.era) over.stocked) over.made.moves) caller at place;
   right = λ seen contents user held keys p.
       let s : IsSettled before contents user = settled_by before contents user before.doubt p.fits.stands settled in
       let e : held ≡ user.durable = ⊎_elim (λ q. q) (λ q. absurd (not_None held (sym q ∙ s.none))) p.which in
       subst (λ d. Turns old.era seen (is_lost before) before.account d (Turned old.era user told_as.Settled turn answer)
-      after over.given.steps user contents) (sym e)
+      after over.made.given.steps user contents) (sym e)
       (turns_more old.era seen (is_lost before) before.account user.durable (Given old.era user turn answer)
-      (Turned old.era user told_as.Settled turn answer) after over.given.steps user contents
+      (Turned old.era user told_as.Settled turn answer) after over.made.given.steps user contents
       (λ next g. settled_turned user next s.none g)
       (subst (λ era. Turns era seen (is_lost before) before.account user.durable (Given era user turn answer) after
-      over.given.steps user contents) (ap (λ (x : ShareSeen). x.era) over.stocked)
-      (over.given.right seen contents user keys (record {
+      over.made.given.steps user contents) (ap (λ (x : ShareSeen). x.era) over.stocked)
+      (over.made.given.right seen contents user keys (record {
         among = p.among;
         clean = p.clean;
         fits = p.fits;
@@ -135,7 +141,9 @@ module _ (old mid start new : ShareSeen) (before ready after : UserState) (turn 
     (owes : OwesAll old steps before ready (Ok told)) (keeps : KeepsAccount before ready)
     (made : steps ≡ [] → ⊥) (not_settled : told ≡ told_as.Settled → ⊥) (doubtful : before.doubt ≡ None → ⊥)
     (same_era : start.era ≡ old.era) (given : IsGiven start new ready after turn answer)
-    (more : RunsOver mid new given.steps) where
+    (more : RunsOver mid new given.steps)
+    (moves : (caller at place : ℕ) → Moves old.era before (entry_by caller at before.last turn told answer place)
+    (steps ++ given.steps) after) where
   same_lost : is_lost ready ≡ is_lost before
   same_lost = ap is_some keeps.lost
 
@@ -215,6 +223,7 @@ module _ (old mid start new : ShareSeen) (before ready after : UserState) (turn 
       cost = given.keeps.cost ∙ keeps.cost;
       lost = given.keeps.lost ∙ keeps.lost;
     };
+    moves = moves;
     right = λ seen contents user held keys p. whole_turn seen contents user held keys p;
   }
 
@@ -223,10 +232,13 @@ pub turn_failed : (old new : ShareSeen) (before after : UserState) (turn : Turn)
     (steps : List Step) → RunsOver old new steps → OwesAll old steps before after (Err fault) → after ≡ before
     → (before.doubt ≡ None → ⊥) → (answer ≡ answers.StorageFault) ⊎ IsStandIn answer
     → (answer ≡ answers.StorageFault → HasFailed steps)
+    → ((caller at place : ℕ) → Moves old.era before (entry_by caller at before.last turn told_as.Failed answer place)
+    steps after)
     → IsTurn old new before after turn told_as.Failed answer
-turn_failed old new before after turn fault answer steps runs owes same doubtful standing caused = record {
+turn_failed old new before after turn fault answer steps runs owes same doubtful standing caused moves = record {
   steps = steps;
   runs = runs;
+  moves = moves;
   settled = (λ e. absurd (not_failed e), λ e. absurd (doubtful e));
   fault = caused;
   keeps = subst (KeepsAccount before) (sym same) (record { account = refl; cost = refl; lost = refl });
@@ -289,8 +301,13 @@ module _ (old mid new : ShareSeen) (before ready after : UserState) (turn : Turn
       (subst (λ x. OwesAll old reloads.steps before ready x) is reloads.right) reloads.keeps
       (reloads.made (ap is_ok is))
       (told_which told (subst (λ x. IfOk x (λ t. (t ≡ told_as.Before) ⊎ (t ≡ told_as.After))) is reloads.told))
-      doubtful (ap (λ (x : ShareSeen). x.era) over.stocked ∙ reloads.runs.era) over.given
-      (runs_over mid over.start new over.given.steps over.stocked over.given.runs)
+      doubtful (ap (λ (x : ShareSeen). x.era) over.stocked ∙ reloads.runs.era) over.made.given
+      (runs_over mid over.start new over.made.given.steps over.stocked over.made.given.runs)
+      (λ caller at place. moves_reloaded old.era before ready after turn told answer reloads.steps
+      over.made.given.steps (subst (λ x. IfOk x (λ t. (t ≡ told_as.Before) ⊎ (t ≡ told_as.After))) is
+      reloads.told) (reloads.settles (ap is_ok is)) reloads.puts over.made.given.keeps over.made.given.fault
+      (subst (λ (era : Era). RowMoves era ready after turn answer over.made.given.steps)
+      (ap (λ (x : ShareSeen). x.era) over.stocked ∙ reloads.runs.era) over.made.moves) caller at place)
 
   -- it wasn't, and the account stays as it was
   pub turn_of_fault : (fault : StoreFault) → r ≡ Err fault → IsFaultAnswer fault answer
@@ -300,6 +317,11 @@ module _ (old mid new : ShareSeen) (before ready after : UserState) (turn : Turn
       (subst (λ x. OwesAll old reloads.steps before ready x) is reloads.right) (reloads.stays (ap is_err is)) doubtful
       (standing fault answered) (caused fault answered (λ e. reloads.fails (subst (λ x. IsErrOf x faults.Failed)
       (sym is) (ap (λ (f : StoreFault). Err f) e))))
+      (λ caller at place. moves_unloaded old.era before ready turn fault answer reloads.steps
+      (reloads.stays (ap is_err is)) reloads.puts
+      (caused fault answered (λ e. reloads.fails (subst (λ x. IsErrOf x faults.Failed)
+      (sym is) (ap (λ (f : StoreFault). Err f) e)))) answered
+      (λ name e. reloads.damaged name (is ∙ ap (λ (f : StoreFault). Err f) e)) caller at place)
     where
       standing : (f : StoreFault) → IsFaultAnswer f answer → (answer ≡ answers.StorageFault) ⊎ IsStandIn answer
       standing faults.Failed h = inl h

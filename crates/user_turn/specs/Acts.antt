@@ -1,7 +1,6 @@
 -- What one turn of an account does, whether its last turn failed or not.
-use Rattle.std.specs.Prelude.{◌≡◌, ◌⊎◌, ◌↔◌, ℕ, ◌<◌, ◌^◌, List, Option, None, Some, Contains, IsTrue, IfSome}
+use Rattle.std.specs.Prelude.{◌≡◌, ◌⊎◌, ◌↔◌, ℕ, ◌<◌, ◌^◌, List, Option, None, Some, Contains, IsTrue}
 use Rattle.std.specs.FinMap.{get}
-use Rattle.pw_types.specs.declared.era.Era.{Era}
 use Rattle.account_machine.specs.declared.answer.Answer.{Answer}
 use Rattle.account_machine.specs.declared.answer.Answer.TheVariants as answers
 use Rattle.account_machine.specs.declared.entry.Entry.{Entry}
@@ -30,6 +29,7 @@ use Rattle.user_state.specs.Sound.{IsSound, IsTellable}
 use Rattle.user_state.specs.Turns.{IsGiven, KeepsAccount, Turns, secret_of}
 use Rattle.user_state.specs.declared.state.Seen.{Seen}
 use Rattle.user_state.specs.declared.state.UserState.{UserState}
+use Rattle.user_turn.specs.Moves.{RowMoves, Moves}
 
 -- the durable part is the user's, or the second possible one
 abbrev pub IsOneOf : User → Durable → Type 0
@@ -45,6 +45,18 @@ pub record TurnPremises (seen : List Contents) (contents : Contents) (before : U
   pub which : IsOneOf user held
   pub holds : HoldsUnder (is_lost before) contents before.account held keys
 
+-- a client's entry of a turn: at the number that the clock gave and the moment that counts, and at its place
+abbrev pub entry_by : ℕ → ℕ → ℕ → Turn → Told → Answer → ℕ → Entry
+entry_by caller given moment turn told answer place = record {
+  caller = caller;
+  given = given;
+  moment = moment;
+  told = told;
+  turn = turn;
+  answer = answer;
+  place = place;
+}
+
 -- A turn at the user's last moment, of whatever contents its device steps fit: the reload that was due told this, and
 -- the machine may answer so. Without a doubt nothing is reloaded.
 pub record IsTurn (old new : ShareSeen) (before after : UserState) (turn : Turn) (told : Told) (answer : Answer)
@@ -54,6 +66,8 @@ pub record IsTurn (old new : ShareSeen) (before after : UserState) (turn : Turn)
   pub settled : (told ≡ Settled) ↔ (before.doubt ≡ None)
   pub fault : answer ≡ answers.StorageFault → HasFailed steps
   pub keeps : KeepsAccount before after
+  pub moves : (caller given place : ℕ)
+      → Moves old.era before (entry_by caller given before.last turn told answer place) steps after
   pub right : (seen : List Contents) (contents : Contents) (user : User) (held : Durable) (keys : Keys)
       → TurnPremises seen contents before (secret_of turn) user held keys
       → Turns old.era seen (is_lost before) before.account held (Turned old.era user told turn answer)
@@ -67,6 +81,7 @@ pub record IsAct (old new : ShareSeen) (before after : UserState) (entry : Entry
   pub settled : (entry.told ≡ Settled) ↔ (before.doubt ≡ None)
   pub fault : entry.answer ≡ answers.StorageFault → HasFailed steps
   pub keeps : KeepsAccount before after
+  pub moves : Moves old.era before entry steps after
   pub right : (seen : List Contents) (contents : Contents) (user : User) (held : Durable) (keys : Keys)
       → TurnPremises seen contents before (secret_of entry.turn) user held keys
       → Turns old.era seen (is_lost before) before.account held (λ next. machine.Step old.era user entry next)
@@ -81,10 +96,15 @@ IsDerivedOf (Some secret) derived = derived.key ≡ derive secret derived.salt d
 
 -- ---- a settled turn, over a share that took memory for its calls
 
+-- the machine may take the row, and this is what the row did
+pub record IsMade (old new : ShareSeen) (before after : UserState) (turn : Turn) (answer : Answer) : Type 0 where
+  pub given : IsGiven old new before after turn answer
+  pub moves : RowMoves old.era before after turn answer given.steps
+
 pub record GivenOver (old new : ShareSeen) (before after : UserState) (turn : Turn) (answer : Answer) : Type 0 where
   pub start : ShareSeen
   pub stocked : start ≡ record old { spare = start.spare }
-  pub given : IsGiven start new before after turn answer
+  pub made : IsMade start new before after turn answer
 
 -- ---- a state between turns
 
@@ -107,18 +127,6 @@ pub record ShowsFactor (after : UserState) (turn : Turn) (answer : Answer) (seen
   pub turn_is : turn ≡ Look label
   pub answer_is : answer ≡ answers.Seen seen.edition
   pub seen_is : seen ≡ seen_by (get after.stored.factors label) after.cost seen.fresh
-
--- a client's entry of a turn: at the number that the clock gave and the moment that counts, and at its place
-abbrev pub entry_by : ℕ → ℕ → ℕ → Turn → Told → Answer → ℕ → Entry
-entry_by caller given moment turn told answer place = record {
-  caller = caller;
-  given = given;
-  moment = moment;
-  told = told;
-  turn = turn;
-  answer = answer;
-  place = place;
-}
 
 -- how a reload's fault is answered. Want of memory may stand for a damaged record, whose name takes memory
 abbrev pub IsFaultAnswer : StoreFault → Answer → Type 0

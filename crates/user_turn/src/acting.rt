@@ -6,10 +6,10 @@ ghost use Rattle.account_machine.specs.declared.request.Turn.TheVariants.{Clear}
 ghost use Rattle.share_api.specs.Conditions.{IsOf};
 ghost use Rattle.share_api.specs.Seen.{ShareSeen};
 ghost use Rattle.user_state.specs.Fits.{is_lost};
-ghost use Rattle.user_state.specs.Turns.{IsGiven, secret_of};
+ghost use Rattle.user_state.specs.Turns.{secret_of};
 ghost use Rattle.turn_rows.specs.Due.{IsReady, IsDue};
 ghost use Rattle.request_forms.specs.Formed.{IsFormed};
-ghost use Rattle.user_turn.specs.Acts.{GivenOver, IsTurn, IsAct, IsDerivedOf, IsFaultAnswer, IsSteady, RestsOn, ShowsFactor, entry_by};
+ghost use Rattle.user_turn.specs.Acts.{GivenOver, IsTurn, IsAct, IsDerivedOf, IsFaultAnswer, IsMade, IsSteady, RestsOn, ShowsFactor, entry_by};
 
 use crate::rows::request_row;
 use account_machine::{Answer, Outlined, Token, Told, Turn};
@@ -65,7 +65,7 @@ fn due_act<S: Share>(
 fn clear(state: &UserState, token: &Token) -> Answer
     requires ready { IsReady state.now }
     requires due { IsDue state.now (Clear token.now) }
-    ensures given { (share : ShareSeen) → IsGiven share share state.now state.now (Clear token.now) result }
+    ensures made { (share : ShareSeen) → IsMade share share state.now state.now (Clear token.now) result }
 {
     if state.pins() == 0 {
         Answer::PinsClear

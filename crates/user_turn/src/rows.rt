@@ -1,19 +1,20 @@
 //! The rows of all requests of a settled account.
 
-ghost use Rattle.std.specs.Prelude.{◌≡◌, ◌≤◌, ℕ, List, IfSome, IsSomeAnd, IsTrue, is_some, option_copied};
+ghost use Rattle.std.specs.Prelude.{◌≡◌, ◌≤◌, ℕ, List, Option, None, IfSome, IsSomeAnd, IsTrue, is_some, option_copied};
 ghost use Rattle.std.specs.FinMap.{get, len};
 ghost use Rattle.account_machine.specs.declared.factor.Kind.TheVariants.{Password};
-ghost use Rattle.account_machine.specs.declared.request.Request.TheVariants.{Authenticate, UpdateFactor, RemoveFactor};
+ghost use Rattle.account_machine.specs.declared.request.Request.TheVariants.{Authenticate, AddFactor, UpdateFactor, RemoveFactor};
 ghost use Rattle.account_machine.specs.declared.request.Turn.TheVariants.{Act};
 ghost use Rattle.factor_files.specs.declared.factor.FactorRecord.{FactorRecord as RowSeen};
+ghost use Rattle.record_names.specs.Names.{is_factor_label};
 ghost use Rattle.share_api.specs.Conditions.{IsOf};
 ghost use Rattle.user_state.specs.Fits.{is_lost};
 ghost use Rattle.user_state.specs.Sound.{IsSound};
-ghost use Rattle.user_state.specs.Turns.{IsGiven, asked_secret};
+ghost use Rattle.user_state.specs.Turns.{asked_secret};
 ghost use Rattle.turn_rows.specs.Due.{IsReady, IsDue};
 ghost use Rattle.turn_secrets.specs.Checked.{IsOfSecret};
 ghost use Rattle.request_forms.specs.Formed.{IsFormedRequest};
-ghost use Rattle.user_turn.specs.Acts.{GivenOver, IsDerivedOf, RestsOn};
+ghost use Rattle.user_turn.specs.Acts.{GivenOver, IsDerivedOf, IsMade, RestsOn};
 
 use account_machine::{Answer, Kind, Request, Token};
 use ct_bytes::{NoMemory, Text};
@@ -55,7 +56,7 @@ fn authenticate_row<S: Share>(
     requires lost { is_some (S.seen share.old).lost ≡ is_lost state.old }
     requires spare { 1 ≤ (S.seen share.old).spare }
     requires derived { IfSome (option_copied derived) (IsOfSecret secret.now) }
-    ensures given { (account : List ℕ) → IsGiven (S.seen share.old) (S.seen share.new) state.old state.new
+    ensures made { (account : List ℕ) → IsMade (S.seen share.old) (S.seen share.new) state.old state.new
         (Act (Authenticate account token.now label.now secret.now)) result }
     ensures rests { RestsOn state.old state.new }
     ensures goes { S.goes share.old share.new }
@@ -64,6 +65,37 @@ fn authenticate_row<S: Share>(
         authenticate_password(alloc, state, share, token, label, secret, derived)
     } else {
         Answer::NoMemory
+    }
+}
+
+// A new factor. A new PIN isn't built: it answers that there was no memory.
+fn add_row<S: Share>(
+    alloc: Global,
+    state: &mut UserState,
+    share: &mut S,
+    token: &Token,
+    label: &Text,
+    kind: Kind,
+    secret: &Text,
+    derived: Option<Derived>,
+) -> Answer
+    requires ready { IsReady state.old }
+    requires sound { IsSound state.old }
+    requires due { IsDue state.old (Act (AddFactor state.old.account token.now label.now kind secret.now None)) }
+    requires own { IsOf (S.seen share.old).owner state.old.account }
+    requires lost { is_some (S.seen share.old).lost ≡ is_lost state.old }
+    requires spare { 3 ≤ (S.seen share.old).spare }
+    requires label { IsTrue (is_factor_label label.now) }
+    requires derived { IfSome derived (IsOfSecret secret.now) }
+    ensures made { (account : List ℕ) (schedule : Option (List (ℕ × ℕ)))
+        → IsMade (S.seen share.old) (S.seen share.new) state.old state.new
+        (Act (AddFactor account token.now label.now kind secret.now schedule)) result }
+    ensures rests { RestsOn state.old state.new }
+    ensures goes { S.goes share.old share.new }
+{
+    match kind {
+        Kind::Password => add_password(alloc, state, share, token, label, secret, derived),
+        Kind::Pin => Answer::NoMemory,
     }
 }
 
@@ -84,7 +116,7 @@ fn update_row<S: Share>(
     requires lost { is_some (S.seen share.old).lost ≡ is_lost state.old }
     requires spare { 3 ≤ (S.seen share.old).spare }
     requires derived { IfSome derived (IsOfSecret secret.now) }
-    ensures given { (account : List ℕ) → IsGiven (S.seen share.old) (S.seen share.new) state.old state.new
+    ensures made { (account : List ℕ) → IsMade (S.seen share.old) (S.seen share.new) state.old state.new
         (Act (UpdateFactor account token.now label.now secret.now)) result }
     ensures rests { RestsOn state.old state.new }
     ensures goes { S.goes share.old share.new }
@@ -104,7 +136,7 @@ fn remove_row<S: Share>(state: &mut UserState, share: &mut S, token: &Token, lab
     requires own { IsOf (S.seen share.old).owner state.old.account }
     requires lost { is_some (S.seen share.old).lost ≡ is_lost state.old }
     requires spare { 2 ≤ (S.seen share.old).spare }
-    ensures given { (account : List ℕ) → IsGiven (S.seen share.old) (S.seen share.new) state.old state.new
+    ensures made { (account : List ℕ) → IsMade (S.seen share.old) (S.seen share.new) state.old state.new
         (Act (RemoveFactor account token.now label.now)) result }
     ensures rests { RestsOn state.old state.new }
     ensures goes { S.goes share.old share.new }
@@ -133,7 +165,7 @@ fn stepping_row<S: Share>(
     requires looks { len state.old.stored.factors ≤ (S.seen share.old).spare }
     requires formed { IsFormedRequest request.now }
     requires derived { IfSome derived (IsDerivedOf (asked_secret request.now)) }
-    ensures given { IsGiven (S.seen share.old) (S.seen share.new) state.old state.new (Act request.now) result }
+    ensures made { IsMade (S.seen share.old) (S.seen share.new) state.old state.new (Act request.now) result }
     ensures rests { RestsOn state.old state.new }
     ensures goes { S.goes share.old share.new }
 {
@@ -148,10 +180,10 @@ fn stepping_row<S: Share>(
         Request::AddFactor {
             token,
             label,
-            kind: Kind::Password,
+            kind,
             secret,
             ..
-        } => add_password(alloc, state, share, token, label, secret, derived),
+        } => add_row(alloc, state, share, token, label, *kind, secret, derived),
         Request::UpdateFactor {
             token,
             label,

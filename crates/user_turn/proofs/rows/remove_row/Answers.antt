@@ -1,10 +1,19 @@
+use Rattle.std.proofs.Common.{arith}
 use Rattle.account_machine.specs.declared.request.Request.TheVariants.{RemoveFactor}
 use Rattle.account_machine.specs.declared.request.Turn.TheVariants.{Act}
-use Rattle.turn_rows.proofs.Quiet.{starved_given}
+use Rattle.user_turn.proofs.Moving.{made_starved, made_edit}
 use Rattle.user_turn.proofs.rows.remove_row.Goals as goal
 
+-- a password is removed
+pub returns-then-is_password-clause-made : goal.returns-then-is_password-clause-made
+returns-then-is_password-clause-made g c = λ account.
+    made_edit (g.S.Share.seen c.args.share.now) (g.S.Share.seen c.remove_password.new.share) c.args.state.now
+    c.remove_password.new.state (RemoveFactor account c.args.token.now c.args.label.now) c.remove_password.result ⊥ 0 0 (c.remove_password.ensures.given account) c.requires.due
+    (λ q. absurd q) (λ b. absurd b) c.remove_password.ensures.cost (omega arith) c.remove_password.ensures.draws
+    c.remove_password.ensures.caused
+
 -- the factor isn't a password
-pub returns-else-is_password-clause-given : goal.returns-else-is_password-clause-given
-returns-else-is_password-clause-given g c = λ account.
-    starved_given c.args.state.now c.requires.ready (Act (RemoveFactor account c.args.token.now c.args.label.now)) tt
-    (g.S.Share.seen c.args.share.now)
+pub returns-else-is_password-clause-made : goal.returns-else-is_password-clause-made
+returns-else-is_password-clause-made g c = λ account.
+    made_starved (g.S.Share.seen c.args.share.now) c.args.state.now
+    (Act (RemoveFactor account c.args.token.now c.args.label.now)) c.requires.ready tt c.requires.due

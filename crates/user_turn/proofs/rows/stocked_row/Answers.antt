@@ -1,6 +1,5 @@
-use Rattle.std.proofs.Common.{◌≤◌, ℕ, arith}
 use Rattle.account_machine.specs.declared.request.Turn.TheVariants.{Act}
-use Rattle.turn_rows.proofs.Quiet.{starved_given}
+use Rattle.user_turn.proofs.Moving.{made_starved}
 use Rattle.user_turn.proofs.Resting.{rests_same}
 use Rattle.user_turn.proofs.rows.stocked_row.Goals as goal
 
@@ -10,7 +9,8 @@ returns-in-Err g c = record {
   given = record {
     start = g.S.Share.seen c.stock.new.self;
     stocked = c.stock.ensures.same;
-    given = starved_given c.args.state.now c.requires.ready (Act c.args.request.now) tt (g.S.Share.seen c.stock.new.self);
+    made = made_starved (g.S.Share.seen c.stock.new.self) c.args.state.now (Act c.args.request.now) c.requires.ready tt
+        c.requires.due;
   };
   rests = rests_same c.args.state.now c.requires.ready c.requires.sound;
   goes = c.stock.ensures.goes;
