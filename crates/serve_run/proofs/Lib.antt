@@ -1,4 +1,4 @@
-mod Numbers
+pub mod Numbers
 mod Joined
 mod Sharing
 mod Ends
