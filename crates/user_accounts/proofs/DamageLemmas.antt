@@ -1,11 +1,11 @@
 -- Where damage may be answered, want of memory may be, since no row of the table answers damage.
-use Rattle.std.proofs.Common.{◌≡◌, Bool, true, false, Option, None, Some, refl, sym, ap, ◌∙◌, subst, inl, inr, true≢false}
+use Rattle.std.proofs.Common.{◌≡◌, List, Bool, true, false, Option, None, Some, refl, sym, ap, ◌∙◌, subst, inl, inr, true≢false}
 use Rattle.std.specs.Prelude.{MatchOption, option_and_then, if◌then◌else◌, bytes_eq}
 use Rattle.std.specs.FinMap.{get, entries}
 use Rattle.pw_types.specs.declared.delay.Readiness.{Readiness}
 use Rattle.pw_types.specs.declared.delay.Readiness.TheVariants as readiness
 use Rattle.pw_types.specs.declared.era.Era.{Era}
-use Rattle.account_machine.specs.Answers.{answer_of}
+use Rattle.account_machine.specs.Answers.{answer_of, refused_in}
 use Rattle.account_machine.specs.Effect.{Outcome, effect, turn_effect, tried, pin_tried, right_password, right_pin, readiness_now, cleared_by, first_counted}
 use Rattle.account_machine.specs.Outline.{session_at}
 use Rattle.account_machine.specs.Step.{Step, FailsToReload, Given, by_row, unsettles, loses, hides, stands_in, Row, outcome_by, refusal_now, reloaded}
@@ -29,7 +29,9 @@ use Rattle.share_api.specs.Contents.{Bytes}
 use Rattle.share_api.specs.Seen.{ShareSeen}
 use Rattle.user_state.specs.Fits.{is_lost}
 use Rattle.user_state.specs.declared.state.UserState.{UserState}
+use Rattle.share_api.specs.declared.step.Step.{Step as DeviceStep}
 use Rattle.user_turn.specs.Acts.{IsAct}
+use Rattle.user_turn.specs.Moves.{Moves}
 use Rattle.user_turn.proofs.Turning.{turns_more}
 
 -- ---- no row answers damage
@@ -172,6 +174,35 @@ abbrev IsNoMemory : Answer → Type 0
 IsNoMemory answers.NoMemory = Unit {0}
 IsNoMemory _ = ⊥
 
+-- what the turn did stays so of it
+moves_forgotten : (era : Era) (before after : UserState) (entry : Entry) (steps : List DeviceStep) (name : Bytes)
+    → entry.answer ≡ answers.Damaged name → Moves era before entry steps after
+    → Moves era before (forgotten entry) steps after
+moves_forgotten era before after entry steps name is m = record {
+  account = m.account;
+  cost = m.cost;
+  costs = m.costs;
+  draws = m.draws;
+  token = λ ends token e. absurd (subst IsNoMemory e tt);
+  fault = λ e. absurd (subst IsNoMemory e tt);
+  row = λ no. let r = m.row no in record {
+    stored = r.stored;
+    same = r.same;
+    ends = tt;
+    damaged = λ broken e. absurd (subst IsNoMemory e tt);
+    refusal = sym (ap refused_in is) ∙ r.refusal;
+    refused = λ some. absurd (true≢false (sym some));
+    quiet = r.quiet;
+    unmoved = λ _ some. absurd (true≢false (sym some));
+  };
+  failed = λ e. let f = m.failed e in record {
+    refused = refl;
+    ends = refl;
+    same = f.same;
+    damaged = λ broken k. absurd (subst IsNoMemory k tt);
+  };
+}
+
 -- an entry of a turn that was answered damage may be answered that there was no memory
 pub damage_forgotten : (old new : ShareSeen) (before after : UserState) (entry : Entry) (name : Bytes)
     → entry.answer ≡ answers.Damaged name
@@ -183,6 +214,7 @@ damage_forgotten old new before after entry name is act = record {
   settled = act.settled;
   fault = λ e. absurd (subst IsNoMemory e tt);
   keeps = act.keeps;
+  moves = moves_forgotten old.era before after entry act.steps name is act.moves;
   right = λ seen contents user held keys premises.
       turns_more old.era seen (is_lost before) before.account held (λ next. Step old.era user entry next)
       (λ next. Step old.era user (forgotten entry) next) after act.steps user contents

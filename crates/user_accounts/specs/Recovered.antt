@@ -14,7 +14,7 @@ use Rattle.share_api.specs.Contents.{Contents}
 use Rattle.share_api.specs.Steps.{Does}
 use Rattle.share_api.specs.declared.step.Step.{Step}
 use Rattle.board_device.specs.Device.{board_of, accounts_of, era_of}
-use Rattle.board_device.specs.Standing.{StandsTo, IsOpened, contents_of, images_now, images_since}
+use Rattle.board_device.specs.Standing.{StandsTo, IsOpened, contents_of, images_since}
 use Rattle.board_device.specs.declared.device.BoardDevice.{BoardDevice}
 use Rattle.board_device.proofs.LedLemmas.{image_led, last_led, now_led}
 use Rattle.turn_meaning.specs.Meanings.{Part, part_of, DoesPart, user_rules}
