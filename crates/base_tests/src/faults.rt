@@ -6,6 +6,6 @@ use fault_count::{Failed, FaultCount};
 fn each_fault_is_answered_as_failed(rt: HostRuntime) {
     let mut faults = FaultCount::new();
     for _ in 0..3 {
-        assert_eq!(rt; faults.raise(), Failed);
+        assert!(rt; faults.raise() == Failed);
     }
 }

@@ -13,11 +13,9 @@ fn root_at(number: u16, leaf: &Hash, aux: &Aux) -> Hash {
 #[test]
 fn labels_end_below_16384(rt: HostRuntime) {
     for (number, found) in [(0, true), (16_383, true), (16_384, false), (65_535, false)] {
-        assert_eq!(rt; Label::new(number).is_some(), found, "number {number}");
+        assert!(rt; Label::new(number).is_some() == found, "number {number}");
     }
-    if let Some(last) = Label::new(16_383) {
-        assert_eq!(rt; last.number(), 16_383);
-    }
+    assert!(rt; Label::new(16_383).map(|last| last.number()) == Some(16_383));
 }
 
 #[rattlefmt::skip]
@@ -39,9 +37,9 @@ const EMPTY: [(usize, Hash); 3] = [
 #[test]
 fn the_empty_roots_are_those_of_another_program(rt: HostRuntime) {
     let roots = empty_roots();
-    assert_eq!(rt; roots[0], [0; 32]);
+    assert!(rt; roots[0] == [0; 32]);
     for (level, root) in EMPTY {
-        assert_eq!(rt; roots[level], root, "level {level}");
+        assert!(rt; roots[level] == root, "level {level}");
     }
 }
 
@@ -53,7 +51,10 @@ fn an_empty_label_among_empty_siblings_has_the_empty_root(rt: HostRuntime) {
         aux[level] = [roots[level], roots[level], roots[level]];
     }
     for number in [0, 1, 6_957, 16_383] {
-        assert_eq!(rt; root_at(number, &[0; 32], &aux), roots[7], "label {number}");
+        assert!(rt;
+            root_at(number, &[0; 32], &aux) == roots[7],
+            "label {number}"
+        );
     }
 }
 
@@ -86,6 +87,6 @@ fn a_path_has_the_root_of_another_program(rt: HostRuntime) {
         aux[level as usize] = [[first; 32], [first + 1; 32], [first + 2; 32]];
     }
     for (number, root) in ROOTS {
-        assert_eq!(rt; root_at(number, &[255; 32], &aux), root, "label {number}");
+        assert!(rt; root_at(number, &[255; 32], &aux) == root, "label {number}");
     }
 }

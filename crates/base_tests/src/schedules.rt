@@ -17,34 +17,35 @@ fn a_list_that_is_no_schedule_is_refused_at_its_first_bad_pair(rt: HostRuntime) 
         (&[(5, 30), (6, 60), (7, 90)], 3),
     ];
     for (pairs, place) in rows {
-        assert_eq!(rt;
-            Schedule::new(pairs),
-            Err(ScheduleFault::BadSchedule(place)),
-            "place {place}"
-        );
+        let refused = Err(ScheduleFault::BadSchedule(place));
+        assert!(rt; Schedule::new(pairs) == refused, "place {place}");
     }
+}
+
+const ONE_PAIR: [(u32, u32); 1] = [(3, LOCKED)];
+
+// Whether a schedule of one pair keeps it, and locks by it.
+fn keeps_its_pair() -> Result<bool, ScheduleFault> {
+    let schedule = Schedule::new(&ONE_PAIR)?;
+    Ok(schedule.pairs() == ONE_PAIR.as_slice() && schedule.limit() == 3)
+}
+
+// What one pair answers after so many wrong tries.
+fn under_one_pair(wrong: u32) -> Result<Readiness, ScheduleFault> {
+    let schedule = Schedule::new(&ONE_PAIR)?;
+    let stamp = Stamp { boot: 1, at: 1_000 };
+    Ok(ready(&schedule, wrong, stamp, stamp, 0))
 }
 
 #[test]
 fn under_one_pair_the_third_wrong_try_locks(rt: HostRuntime) {
-    let pairs = [(3, LOCKED)];
-    let Ok(schedule) = Schedule::new(&pairs) else {
-        assert!(rt; false, "the pair is a schedule");
-        return;
-    };
-    assert_eq!(rt; schedule.pairs(), pairs.as_slice());
-    assert_eq!(rt; schedule.limit(), 3);
-    let stamp = Stamp { boot: 1, at: 1_000 };
+    assert!(rt; keeps_its_pair() == Ok(true));
     for (wrong, want) in [
         (0, Readiness::Ready),
         (2, Readiness::Ready),
         (3, Readiness::Locked),
     ] {
-        assert_eq!(rt;
-            ready(&schedule, wrong, stamp, stamp, 0),
-            want,
-            "{wrong} wrong tries"
-        );
+        assert!(rt; under_one_pair(wrong) == Ok(want), "{wrong} wrong tries");
     }
 }
 
@@ -89,23 +90,20 @@ fn the_default_schedule_waits_at_each_of_its_edges(rt: HostRuntime) {
             at,
         };
         let start = if restarted { 2_000 } else { 900 };
-        assert_eq!(rt;
-            ready(&schedule, wrong, last, now, start),
-            want,
-            "{wrong} wrong tries at {at}"
-        );
+        let answer = ready(&schedule, wrong, last, now, start);
+        assert!(rt; answer == want, "{wrong} wrong tries at {at}");
     }
 }
 
 #[test]
 fn a_number_past_the_last_moment_is_cut(rt: HostRuntime) {
-    assert_eq!(rt; LAST_MOMENT, 1_099_511_627_775);
+    assert!(rt; LAST_MOMENT == 1_099_511_627_775);
     for (number, moment) in [
         (0, 0),
         (1_099_511_627_775, 1_099_511_627_775),
         (1_099_511_627_776, 1_099_511_627_775),
         (u64::MAX, 1_099_511_627_775),
     ] {
-        assert_eq!(rt; cut_moment(number), moment, "at {number}");
+        assert!(rt; cut_moment(number) == moment, "at {number}");
     }
 }
