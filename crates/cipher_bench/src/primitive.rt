@@ -4,6 +4,8 @@ ghost use Rattle.std.specs.Prelude.{◌+◌, ◌*◌, ◌≤◌, length};
 
 use aes_core::Aes256;
 use gcm_seal::{HashKey, product, seal_in_place};
+use hmac_sha::{mac, pbkdf2_one};
+use sha2::{Digest, Sha256};
 
 /// The largest buffer.
 pub const MOST_BYTES: usize = 1 << 30;
@@ -24,6 +26,12 @@ pub enum Primitive {
     Hash,
     /// GHASH by the bit rule.
     BitRule,
+    /// SHA-256.
+    Digest,
+    /// HMAC-SHA-256.
+    Mac,
+    /// PBKDF2 with one turn: as many bytes as the buffer has, of 16 bytes of salt.
+    Derivation,
 }
 
 impl Primitive {
@@ -37,6 +45,12 @@ impl Primitive {
             Some(Primitive::Hash)
         } else if name == "ghash_bit_rule" {
             Some(Primitive::BitRule)
+        } else if name == "sha_256" {
+            Some(Primitive::Digest)
+        } else if name == "hmac_sha_256" {
+            Some(Primitive::Mac)
+        } else if name == "pbkdf2_sha_256" {
+            Some(Primitive::Derivation)
         } else {
             None
         }
@@ -50,25 +64,43 @@ impl Primitive {
             Primitive::Counter => Aes256::expand(&KEY).ctr_xor([7; 16], buf),
             Primitive::Seal => {
                 let tag = seal_in_place(&KEY, &[7; 12], b"", buf);
-                leave(buf, tag);
+                leave(buf, &tag);
             }
             Primitive::Hash => {
                 let hash = hash_by_table(buf);
-                leave(buf, hash.to_be_bytes());
+                leave(buf, &hash.to_be_bytes());
             }
             Primitive::BitRule => {
                 let hash = hash_by_bits(buf);
-                leave(buf, hash.to_be_bytes());
+                leave(buf, &hash.to_be_bytes());
             }
+            Primitive::Digest => {
+                let digest: [u8; 32] = Sha256::digest(&*buf);
+                leave(buf, &digest);
+            }
+            Primitive::Mac => {
+                let code = mac(&KEY, buf);
+                leave(buf, &code);
+            }
+            Primitive::Derivation => derive(buf),
         }
     }
 }
 
 // Writes a result where the next repetition reads it, so that none can be left out.
-fn leave(buf: &mut [u8], block: [u8; 16]) {
-    for (place, byte) in buf.iter_mut().zip(block) {
-        *place ^= byte;
+fn leave(buf: &mut [u8], block: &[u8]) {
+    for (place, byte) in buf.iter_mut().zip(block.iter()) {
+        *place ^= *byte;
     }
+}
+
+// Bytes of PBKDF2 into the buffer. Each salt is of the bytes before, so that none can be left out.
+fn derive(buf: &mut [u8])
+    requires { length buf.old ≤ MOST_BYTES }
+{
+    let mut salt = [7u8; 16];
+    leave(&mut salt, buf);
+    pbkdf2_one(&KEY, &salt, buf);
 }
 
 // A block of the buffer, as a number.
