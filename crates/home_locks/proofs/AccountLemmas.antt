@@ -1,5 +1,5 @@
 -- The value behind an account's lock after a turn.
-use Rattle.std.proofs.Common.{◌≡◌, ℕ, ◌+◌, ◌%◌, ◌^◌, Bool, true, false, length, List, [], ◌∷◌, ◌++◌, Option, None, Some, refl, sym, ap, ◌∙◌, subst, append_assoc}
+use Rattle.std.proofs.Common.{◌≡◌, ℕ, ◌+◌, ◌%◌, ◌^◌, Bool, true, false, length, List, [], ◌∷◌, ◌++◌, Option, None, Some, refl, sym, ap, ◌∙◌, subst, append_assoc, append-nil}
 use Rattle.std.proofs.lemmas.List.{length-append}
 use Rattle.std.specs.Prelude.{◌==◌, if◌then◌else◌, IsSomeAnd}
 use Rattle.std.specs.List.{AllByRecursion}
@@ -14,6 +14,7 @@ use Rattle.platform_lock.specs.Devices.{DeviceSeen, HasAccount, owner_at}
 use Rattle.platform_lock.specs.Seats.{AccountView, ShareView, new_share, seen_of, own_at, IsSameShare}
 use Rattle.home_locks.specs.Meanings.{Rules, client_of, meaning_of}
 use Rattle.home_locks.specs.Turns.{ActStands, made_of}
+use Rattle.home_locks.specs.Moves.{EntryMoves, BookMoves}
 use Rattle.home_locks.specs.Accounts.{AccountStands, AddsTurn, StandsAt, Readiness, StaysReady, IsPlaced}
 use Rattle.home_locks.specs.declared.account.Entry.{Entry}
 
@@ -43,6 +44,29 @@ account_ready rules ready device lock first now start state own share book place
     subst (λ (s : ShareView). ready (seen_of s).owner (seen_of s).lost state) (sym made)
     (subst (λ caller. ready (owner_at device caller) device.lost state) (sym caller_is)
     (stands.stays_ready (owner_at device stands.start.seat.caller) device.lost of_start.2))
+
+-- an entry more, behind those of a book
+moves_turn : {T X : Type 0} (moves : X → T → List Step → X → Type 0) (first before after : X)
+    (own made : List (ℕ × Step)) (book : List (Entry T)) (entry : Entry T)
+    → BookMoves moves first own book before
+    → EntryMoves moves before made entry after
+    → BookMoves moves first (own ++ made) (book ++ entry ∷ []) after
+moves_turn moves first before after own made [] entry none turn = (
+  made,
+  [],
+  after,
+  ap (λ xs. xs ++ made) none.0 ∙ sym (append-nil made),
+  subst (λ state. EntryMoves moves state made entry after) none.1 turn,
+  (refl, refl),
+)
+moves_turn moves first before after own made (e ∷ book) entry more turn = (
+  more.0,
+  more.1 ++ made,
+  more.2,
+  ap (λ xs. xs ++ made) more.3 ∙ append_assoc more.0 more.1 made,
+  more.4,
+  moves_turn moves more.2 before after more.1 made book entry more.5 turn,
+)
 
 -- The account stands with the turn's entry: its seat knows the turn's steps behind those that it knew.
 pub account_turn : {C D U T X : Type 0} (rules_at : Era → Rules C D U T X) (ready : Readiness X) (era : Era)
@@ -74,6 +98,8 @@ account_turn rules_at ready era device first old new start before after own own_
     let own_is : own_new.seat.own ≡ stands.seat.seat.own ++ act.own =
     sym (ap own_at kept) ∙ act.steps.own_is ∙ ap (λ s. own_at s ++ act.own) was
     ∙ ap (λ (o : AccountView). o.seat.own ++ act.own) had_is in
+    let place_is = at ∙ act.steps.place ∙ ap (λ (s : ShareView). place_after s.place act.own) made
+    ∙ place_turn act.own in
     record {
       start = stands.start;
       seat = own_new;
@@ -88,10 +114,11 @@ account_turn rules_at ready era device first old new start before after own own_
       book_stands = stands-turn m start before after stands.own book (made_of client turn place act.own)
           stands.book_stands
           (record {
-            place = at ∙ act.steps.place ∙ ap (λ (s : ShareView). place_after s.place act.own) made
-                ∙ place_turn act.own;
+            place = place_is;
             right = act.right client place;
           });
+      moves = moves_turn (rules_at era).moves start before after stands.own act.own book entry stands.moves
+          (record { place = place_is; moved = act.moved });
       stays_ready = λ owner lost is. readily owner lost (stands.stays_ready owner lost is);
     }
 

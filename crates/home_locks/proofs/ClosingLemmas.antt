@@ -116,6 +116,7 @@ closes_more {C} {D} {U} {T} {X} rules_at ready era opened shared lock accounts c
         record {
           seat_is = sym (ap (λ (o : AccountView). o.seat.own) seat_is) ∙ stands.own_is;
           book_stands = stands.book_stands;
+          moves = stands.moves;
         },
         tt,
       );

@@ -15,7 +15,7 @@ use Rattle.platform_lock.specs.Devices.{account_of}
 use Rattle.home_locks.specs.Meanings.{Rules, client_of, meaning_of}
 use Rattle.home_locks.specs.Accounts.{Started}
 use Rattle.home_locks.specs.Closing.{End, EndStands, Closes, KnowsEnds, AreRecalled, known_of, started_of}
-use Rattle.home_locks.specs.Settled.{AreOpened, AreBooksClean, AreAt, HaveEnded, Settles}
+use Rattle.home_locks.specs.Settled.{AreMoved, AreOpened, AreBooksClean, AreAt, HaveEnded, Settles}
 use Rattle.home_locks.specs.declared.account.Entry.{Entry}
 
 abbrev HasSome : List ℕ → Type 0
@@ -58,8 +58,7 @@ module _ {T X : Type 0} where
       (subst (AllByRecursion (λ known. entries_of account_of known.0 chain ≡ known.1)) knows.1
       (recalls.own, recursion_from_All _ seat.joined recalls.joined))
 
-module _ {C D U T X : Type 0} (rules : Rules C D U T X) (chain : List Step) (images : ByAccount C → Type 0)
-    (user : ℕ → U) (first : ByAccount C) (small : length chain < 2 ^ 64) where
+module _ {C D U T X : Type 0} (rules : Rules C D U T X) (chain : List Step) where
   -- the account's steps in the chain are those that it had made at first, and then those of its book
   parts_in_chain : (account : ℕ) (end : End T X)
       → end.seat.caller ≡ account
@@ -69,6 +68,26 @@ module _ {C D U T X : Type 0} (rules : Rules C D U T X) (chain : List Step) (ima
   parts_in_chain account end is own stands =
       sym (ap (λ (a : ℕ). entries_of account_of a chain) is) ∙ own ∙ stands.seat_is
 
+  -- the books from this account on moved by the steps behind the opening ones
+  pub ends_moved : (ends : List (End T X)) (account more : ℕ)
+      → map (λ end. end.seat.caller) ends ≡ range_with_len account more
+      → AllByRecursion (λ end. entries_of account_of end.seat.caller chain ≡ end.seat.own) ends
+      → AllByRecursion (EndStands rules) ends
+      → AreMoved rules.moves chain account (map started_of ends) (map (λ end. end.book) ends)
+  ends_moved [] account more are recalls stand = tt
+  ends_moved (end ∷ ends) account zero are recalls stand = absurd (subst HasSome are tt)
+  ends_moved (end ∷ ends) account (suc more) are recalls stand = (
+    record {
+      own = end.own;
+      steps_are = parts_in_chain account end (ap (head_or 0) are) recalls.0 stand.0;
+      after = end.after;
+      led = stand.0.moves;
+    },
+    ends_moved ends (account + 1) more (ap rest_of are) recalls.1 stand.1,
+  )
+
+module _ {C D U T X : Type 0} (rules : Rules C D U T X) (chain : List Step) (images : ByAccount C → Type 0)
+    (user : ℕ → U) (first : ByAccount C) (small : length chain < 2 ^ 64) where
   -- an image is at one place of the books from this account on
   ends_at : (n : ℕ) (image : ByAccount C)
       → IsLeftAt (meaning_of rules) n first images chain image
@@ -85,7 +104,7 @@ module _ {C D U T X : Type 0} (rules : Rules C D U T X) (chain : List Step) (ima
       let led = left.each account in (
         at-led (meaning_of rules) n account chain end.early end.own end.start end.after (first account) (image account)
             led.seen (user account) end.book stand.0.book_stands
-            (parts_in_chain account end (ap (head_or 0) are) recalls.0 stand.0)
+            (parts_in_chain rules chain account end (ap (head_or 0) are) recalls.0 stand.0)
             opened.0 (clean.0 led.seen led.parts) small left.within led.led,
         ends_at n image left ends (account + 1) more (ap rest_of are) recalls.1 stand.1 opened.1 clean.1,
       )
@@ -108,7 +127,7 @@ module _ {C D U T X : Type 0} (rules : Rules C D U T X) (chain : List Step) (ima
           end.after,
           ends-led (meaning_of rules) account chain end.early end.own end.start end.after (first account) (now account)
               led.seen (user account) end.book stand.0.book_stands
-              (parts_in_chain account end (ap (head_or 0) are) recalls.0 stand.0)
+              (parts_in_chain rules chain account end (ap (head_or 0) are) recalls.0 stand.0)
               opened.0 (clean.0 led.seen led.parts) small led.led,
         ),
         ends_ended now here ends (account + 1) more (ap rest_of are) recalls.1 stand.1 opened.1 clean.1,
@@ -158,6 +177,24 @@ settles {C} {D} {U} {T} {X} rules shared accounts clients starts old books seat 
       ended = λ user opened clean small. end user now recovers.now_is opened clean small;
       lasts = λ user opened clean small image may. end user image (lasts image may) opened clean small;
     }
+
+-- the books of all accounts moved by their own steps
+pub moved_books : {C D U T X : Type 0} (rules : Rules C D U T X) (shared : LockId) (accounts : List ℕ)
+    (clients : List (SeatView (Entry T))) (starts : List (Started X)) (old books : List (List (Entry T)))
+    (seat : SeatView Step) (chain : List Step)
+    → Closes rules shared accounts clients starts old books (Some seat)
+    → old ≡ []
+    → accounts ≡ range_with_len 0 shared.callers
+    → Recalls account_of chain seat
+    → AreMoved rules.moves chain 0 starts books
+moved_books {C} {D} {U} {T} {X} rules shared accounts clients starts old books seat chain closes none numbers recalls =
+    let ends : List (End T X) = closes.ends in
+    let books_are : books ≡ map (λ end. end.book) ends =
+    closes.books_are ∙ ap (λ bs. bs ++ map (λ (end : End T X). end.book) ends) none in
+    subst (λ bs. AreMoved rules.moves chain 0 starts bs) (sym books_are)
+    (subst (λ xs. AreMoved rules.moves chain 0 xs (map (λ (end : End T X). end.book) ends)) (sym closes.starts_are)
+    (ends_moved rules chain ends 0 shared.callers (sym closes.accounts_are ∙ numbers)
+    (recalls_ends shared chain ends seat recalls closes.knows) closes.stand))
 
 -- what the clients knew are their entries in the books
 recalled_ends : {T X : Type 0} (ends : List (End T X))

@@ -2,12 +2,12 @@
 use Rattle.std.specs.Prelude.{◌≡◌, ℕ, ◌%◌, ◌^◌, List, [], ◌∷◌, ◌++◌, length, Option, None, Some, IsSomeAnd}
 use Rattle.home_image.specs.Settled.{BookStands}
 use Rattle.share_api.specs.Contents.{Bytes}
-use Rattle.share_api.specs.Places.{steps_of}
 use Rattle.share_api.specs.declared.step.Step.{Step}
 use Rattle.turn_lock.specs.Seats.{SeatView, LockId}
 use Rattle.platform_lock.specs.Devices.{DeviceSeen, HasAccount, owner_at}
 use Rattle.platform_lock.specs.Seats.{AccountView}
 use Rattle.home_locks.specs.Meanings.{Rules, meaning_of}
+use Rattle.home_locks.specs.Moves.{BookMoves}
 use Rattle.home_locks.specs.declared.account.Entry.{Entry}
 
 -- which states a turn can begin with over the share of an account of this name, where the tree of leaves is lost or not
@@ -21,7 +21,7 @@ StaysReady ready before after = (owner : Option Bytes) (lost : Option (Bytes × 
 
 module _ {C D U T X : Type 0} (rules : Rules C D U T X) (ready : Readiness X) where
   -- The account has the seat of the platform's lock that it had at first, which knows behind the steps that it knew
-  -- then those of all turns in the book.
+  -- then those of all turns in the book. Each turn moved the state by its own.
   pub record AccountStands (first_seat : Option AccountView) (before : X) (seat_now : Option AccountView) (after : X)
       (book : List (Entry T)) : Type 0 where
     pub start : AccountView
@@ -32,17 +32,19 @@ module _ {C D U T X : Type 0} (rules : Rules C D U T X) (ready : Readiness X) wh
     pub own : List (ℕ × Step)
     pub own_is : seat.seat.own ≡ start.seat.own ++ own
     pub book_stands : BookStands (meaning_of rules) before after own book
+    pub moves : BookMoves rules.moves before own book after
     pub stays_ready : StaysReady ready before after
 
--- An account when its lock is made: its state, and the device steps that it has made by then, which open it.
+-- An account when its lock is made: its state, and the device steps that it has made by then, which open it, each with
+-- its place.
 pub record Started (X : Type 0) : Type 0 where
   pub state : X
-  pub steps : List Step
+  pub own : List (ℕ × Step)
 
 -- the steps are those that the account's first seat knows
 abbrev pub started_at : {X : Type 0} → Option AccountView → X → Started X
-started_at None state = record { state = state; steps = [] }
-started_at (Some own) state = record { state = state; steps = steps_of own.seat.own }
+started_at None state = record { state = state; own = [] }
+started_at (Some own) state = record { state = state; own = own.seat.own }
 
 -- The account was given a seat of this lock, whose number is an account's of the platform, and a state with which a
 -- turn of this account can begin.

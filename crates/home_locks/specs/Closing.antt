@@ -3,11 +3,11 @@ use Rattle.std.specs.Prelude.{◌≡◌, ℕ, List, [], ◌∷◌, ◌++◌, map
 use Rattle.std.specs.List.{AllByRecursion}
 use Rattle.home_image.specs.Settled.{BookStands}
 use Rattle.pw_types.specs.declared.era.Era.{Era}
-use Rattle.share_api.specs.Places.{steps_of}
 use Rattle.share_api.specs.declared.step.Step.{Step}
 use Rattle.turn_lock.specs.Seats.{SeatView, LockId, HasEachNumber, Recalls, joined_seat}
 use Rattle.platform_lock.specs.Seats.{AccountView}
 use Rattle.home_locks.specs.Meanings.{Rules, client_of, meaning_of}
+use Rattle.home_locks.specs.Moves.{BookMoves}
 use Rattle.home_locks.specs.Accounts.{Started}
 use Rattle.home_locks.specs.declared.account.Entry.{Entry}
 
@@ -43,7 +43,7 @@ pub record End (T X : Type 0) : Type 0 where
 module _ {T X : Type 0} where
   -- the account at first
   abbrev pub started_of : End T X → Started X
-  started_of end = record { state = end.start; steps = steps_of end.early }
+  started_of end = record { state = end.start; own = end.early }
 
   -- what an account's seat knows
   abbrev pub known_of : End T X → ℕ × List (ℕ × Step)
@@ -61,6 +61,7 @@ module _ {C D U T X : Type 0} (rules : Rules C D U T X) where
   pub record EndStands (end : End T X) : Type 0 where
     pub seat_is : end.seat.own ≡ end.early ++ end.own
     pub book_stands : BookStands (meaning_of rules) end.start end.after end.own end.book
+    pub moves : BookMoves rules.moves end.start end.own end.book end.after
 
   -- accounts that had these numbers, clients and starts were closed, and their books put behind others
   pub record Closes (shared : LockId) (accounts : List ℕ) (clients : List (SeatView (Entry T)))

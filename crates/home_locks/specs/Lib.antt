@@ -1,5 +1,6 @@
 pub mod Meanings
 pub mod Turns
+pub mod Moves
 pub mod Accounts
 pub mod Closing
 pub mod Settled

@@ -1,22 +1,43 @@
 -- What is there once all locks are closed.
-use Rattle.std.specs.Prelude.{◌≤◌, ◌<◌, ◌+◌, ◌^◌, ℕ, List, [], ◌∷◌, length}
+use Rattle.std.specs.Prelude.{◌≡◌, ◌≤◌, ◌<◌, ◌+◌, ◌^◌, ℕ, List, [], ◌∷◌, ◌++◌, length}
 use Rattle.std.specs.List.{AllByRecursion}
 use Rattle.home_image.specs.Book.{AreClean}
 use Rattle.home_image.specs.Place.{At}
 use Rattle.home_image.specs.Settled.{Opens, BookEnds}
 use Rattle.image_path.specs.Paths.{IsPart}
 use Rattle.image_path.specs.Showing.{ByAccount}
+use Rattle.platform_lock.specs.Devices.{account_of}
+use Rattle.share_api.specs.Places.{steps_of}
 use Rattle.share_api.specs.declared.step.Step.{Step}
+use Rattle.turn_lock.specs.Lists.{entries_of}
 use Rattle.home_locks.specs.Meanings.{Rules, meaning_of}
+use Rattle.home_locks.specs.Moves.{BookMoves}
 use Rattle.home_locks.specs.Accounts.{Started}
 use Rattle.home_locks.specs.declared.account.Entry.{Entry}
+
+module _ {T X : Type 0} (moves : X → T → List Step → X → Type 0) where
+  -- The account's steps in the chain are those that opened it, and behind them those of its book's entries, which led on
+  -- from the state that it was opened with.
+  pub record IsMoved (chain : List Step) (account : ℕ) (start : Started X) (book : List (Entry T)) : Type 0 where
+    pub own : List (ℕ × Step)
+    pub steps_are : entries_of account_of account chain ≡ start.own ++ own
+    pub after : X
+    pub led : BookMoves moves start.state own book after
+
+  -- so it is of the accounts from this number on, each with its start and its book
+  abbrev pub AreMoved : List Step → ℕ → List (Started X) → List (List (Entry T)) → Type 0
+  AreMoved chain account [] [] = Unit {0}
+  AreMoved chain account [] (book ∷ books) = ⊥
+  AreMoved chain account (start ∷ starts) [] = ⊥
+  AreMoved chain account (start ∷ starts) (book ∷ books) =
+      IsMoved chain account start book × AreMoved chain (account + 1) starts books
 
 module _ {C D U T X : Type 0} (rules : Rules C D U T X) where
   -- the starts open the users over the contents, from this account on
   abbrev pub AreOpened : ByAccount C → (ℕ → U) → ℕ → List (Started X) → Type 0
   AreOpened first user account [] = Unit {0}
   AreOpened first user account (start ∷ starts) =
-      Opens (meaning_of rules) start.state start.steps (first account) (user account)
+      Opens (meaning_of rules) start.state (steps_of start.own) (first account) (user account)
       × AreOpened first user (account + 1) starts
 
   -- no two inputs coincide that are recorded of an account's contents in images and of its book

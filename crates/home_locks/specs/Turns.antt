@@ -26,6 +26,7 @@ module _ {C D U T X : Type 0} (rules : Rules C D U T X) where
   pub record ActStands (before after : X) (turn : T) (old new : ShareSeen) : Type 0 where
     pub own : List (ℕ × Step)
     pub steps : StepsOn old new own
+    pub moved : rules.moves before turn (steps_of own) after
     pub right : (client place : ℕ) (seen : List C) (contents : C) (user : U)
         → Contains seen contents
         → rules.clean seen user turn

@@ -6,7 +6,7 @@ ghost use Rattle.share_api.specs.declared.step.Step.{Step};
 ghost use Rattle.platform_lock.specs.Devices.{IsServed};
 ghost use Rattle.home_locks.specs.Accounts.{started_at};
 ghost use Rattle.home_locks.specs.Closing.{IsWhole, Closes, AreRecalled, account_at, JoinsOn};
-ghost use Rattle.home_locks.specs.Settled.{Settles};
+ghost use Rattle.home_locks.specs.Settled.{AreMoved, Settles};
 
 use crate::account::{Account, Entry};
 use crate::kind::AccountTurns;
@@ -86,8 +86,12 @@ pub fn settle<K: AccountTurns>(
     requires some { 0 < length parts.items }
     requires room { length parts.items ≤ vec_capacity room }
     requires empty { room.items ≡ [] }
+    // Whatever the platform tells, the account's steps in the chain are those that opened it and those of its book's
+    // entries, and each entry moved the account by its own.
     ensures settled { (chain : List Step)
         × IsServed K.Platform.seen K.Platform.stands shared.first.device result.device chain
+        × AreMoved (K.rules (K.Platform.seen shared.first.device).era).moves chain 0
+        (map (λ part. started_at part.lock.first.seat part.lock.first.state) parts.items) result.books.items
         × (K.opened shared.first.device → Settles (K.rules (K.Platform.seen shared.first.device).era)
         (map (λ part. started_at part.lock.first.seat part.lock.first.state) parts.items)
         (K.contents shared.first.device) (K.contents result.device)

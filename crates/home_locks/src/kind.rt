@@ -39,7 +39,7 @@ pub trait AccountTurns {
     /// The state of an account in memory.
     type State: Drop;
 
-    /// What steps, turns and states mean in an era.
+    /// What steps, turns and states mean in an era, and what a turn's own steps do to the state.
     ghost rules: { Era → Rules Self.Contents Self.Durable Self.User Self.Turn Self.State };
 
     /// What was asked became this turn once it was done, and this was told of it.
