@@ -41,10 +41,10 @@ look_turns client turn place own seen contents user state holds = record {
 }
 
 -- a turn without steps, whatever the share's memory
-pub idle_stands : (before after turn : ℕ) (old new : ShareSeen)
+pub idle_stands : (state turn : ℕ) (old new : ShareSeen)
     → new ≡ old
-    → ActStands look_rules before after turn old new
-idle_stands before after turn old new same = record {
+    → ActStands look_rules state state turn old new
+idle_stands state turn old new same = record {
   own = [];
   steps = record {
     own_is = ap (λ (s : ShareSeen). s.own) same ∙ sym (append-nil old.own);
@@ -52,6 +52,7 @@ idle_stands before after turn old new same = record {
     cause = subst (λ (s : ShareSeen). HasCause old.faults s.faults ⊥) (sym same)
         (record { later = omega arith; rose = absurd; kept = λ none. refl });
   };
+  moved = refl;
   right = λ client place seen contents user among clean is.
-      look_turns client turn place [] seen contents user after is.holds;
+      look_turns client turn place [] seen contents user state is.holds;
 }

@@ -21,15 +21,16 @@ nothing_done era client turn place state user seen contents = record {
   );
 }
 
-pub nothing_stands : (before after turn : ℕ) (share : ShareSeen)
-    → ActStands (record_rules share.era) before after turn share share
-nothing_stands before after turn share = record {
+pub nothing_stands : (state turn : ℕ) (share : ShareSeen)
+    → ActStands (record_rules share.era) state state turn share share
+nothing_stands state turn share = record {
   own = [];
   steps = record {
     own_is = sym (append-nil share.own);
     place = refl;
     cause = record { later = omega arith; rose = absurd; kept = λ none. refl };
   };
+  moved = (refl, refl);
   right = λ client place seen contents user among clean is.
-      nothing_done share.era client turn place after user seen contents;
+      nothing_done share.era client turn place state user seen contents;
 }

@@ -11,6 +11,7 @@ use Rattle.share_api.specs.declared.step.Step.{Step}
 use Rattle.home_locks.specs.Meanings.{Rules, meaning_of}
 
 -- Contents, durable parts and users are numbers. No step and no turn changes them, and contents hold their own number.
+-- A turn leaves the state.
 abbrev pub look_rules : Rules ℕ ℕ ℕ ℕ ℕ
 look_rules = record {
   does = λ old step new. new ≡ old;
@@ -20,6 +21,7 @@ look_rules = record {
   allows = λ before turn after. after ≡ before;
   clean = λ seen user turn. Unit {0};
   fits = λ state contents user. Unit {0};
+  moves = λ before turn steps after. after ≡ before;
 }
 
 -- a turn's number stays, and is told

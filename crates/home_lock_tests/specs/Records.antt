@@ -1,5 +1,5 @@
 -- Turns that do nothing, over a platform of records.
-use Rattle.std.specs.Prelude.{◌≡◌, ℕ, List, None, Option, IfSome, take}
+use Rattle.std.specs.Prelude.{◌≡◌, ℕ, List, [], None, Option, IfSome, take}
 use Rattle.std.proofs.Common.{subst}
 use Rattle.board_model.specs.Disk.{Image, Disk}
 use Rattle.pw_types.specs.declared.era.Era.{Era}
@@ -16,6 +16,7 @@ use Rattle.board_device.specs.declared.device.BoardDevice.{BoardDevice}
 use Rattle.board_device.proofs.LedLemmas.{image_led, last_led, now_led}
 
 -- Steps mean what they do to an account's contents. Durable parts and users are numbers, which contents say nothing of.
+-- A turn has no steps, and leaves the state.
 abbrev pub record_rules : Era → Rules Contents ℕ ℕ ℕ ℕ
 record_rules era = record {
   does = Does era;
@@ -25,6 +26,7 @@ record_rules era = record {
   allows = λ before turn after. after ≡ before;
   clean = λ seen user turn. Unit {0};
   fits = λ state contents user. Unit {0};
+  moves = λ before turn steps after. (after ≡ before) × (steps ≡ []);
 }
 
 -- ---- proofs that laws of the turns cite

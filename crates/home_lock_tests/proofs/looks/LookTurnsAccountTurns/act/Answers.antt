@@ -6,4 +6,4 @@ use Rattle.home_lock_tests.proofs.looks.LookTurnsAccountTurns.act.Goals as goal
 pub returns-then-is_err-clause-stands : goal.returns-then-is_err-clause-stands
 returns-then-is_err-clause-stands g c =
     let same : g.S.Share.seen c.stock.new.self ≡ g.S.Share.seen c.args.share.now = search rules in
-    idle_stands _ _ _ _ _ same
+    idle_stands _ _ _ _ same
