@@ -25,6 +25,7 @@ use Rattle.user_state.specs.Fits.{HoldsOne, HoldsOneUnder, is_lost}
 use Rattle.user_state.specs.Turns.{HoldsAround, secret_of}
 use Rattle.user_state.specs.declared.state.UserState.{UserState}
 use Rattle.user_turn.specs.Acts.{IsAct, IsOneOf}
+use Rattle.turn_meaning.specs.Moves.{MovesAccount}
 use Rattle.turn_meaning.specs.Meanings.{user_rules, entry_of, Part, part_of, contents_of, DoesPart, IsCleanOf}
 use Rattle.turn_meaning.specs.declared.taken.TurnTaken.{TurnTaken}
 
@@ -186,5 +187,10 @@ module _ (old new : ShareSeen) (before after : UserState) (taken : TurnTaken)
       place = act.runs.place;
       cause = subst (λ steps. HasCause old.faults new.faults (HasFailed steps)) (sym act.runs.steps_are) act.runs.cause;
     };
+    moved = subst (λ steps. MovesAccount old.era before taken steps after) (sym act.runs.steps_are) (record {
+      settled = act.settled;
+      keeps = act.keeps;
+      moves = act.moves;
+    });
     right = λ client place seen part user has clean is. right client place seen part user has clean is;
   }

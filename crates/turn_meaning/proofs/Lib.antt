@@ -2,3 +2,5 @@ pub mod Joining
 pub mod OpeningParts
 pub mod SecretLaws
 pub mod BookSecrets
+mod FaultLemmas
+mod WordLemmas

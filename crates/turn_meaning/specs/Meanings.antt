@@ -1,7 +1,6 @@
 -- What an account's data mean to one another, for the composition of all accounts.
 use Rattle.std.specs.Prelude.{◌≡◌, Bool, List, Contains, map}
 use Rattle.pw_types.specs.declared.era.Era.{Era}
-use Rattle.account_machine.specs.declared.entry.Entry.{Entry}
 use Rattle.account_machine.specs.declared.request.Turn.{Turn}
 use Rattle.account_machine.specs.declared.user.Durable.{Durable}
 use Rattle.account_machine.specs.declared.user.User.{User}
@@ -15,6 +14,8 @@ use Rattle.stored_home.specs.Holds.{Keys, Holds}
 use Rattle.user_state.specs.Fits.{Fits, HoldsOneUnder, is_lost}
 use Rattle.user_state.specs.Turns.{secret_of}
 use Rattle.user_state.specs.declared.state.UserState.{UserState}
+use Rattle.turn_meaning.specs.Moves.{MovesAccount}
+pub use Rattle.turn_meaning.specs.Moves.{entry_of}
 use Rattle.turn_meaning.specs.declared.taken.TurnTaken.{TurnTaken}
 
 -- what an account has on the platform or in an image, with its name, and whether the tree of leaves is lost
@@ -52,18 +53,6 @@ abbrev pub IsCleanOf : List Part → User → Turn → Type 0
 IsCleanOf seen user turn = (part : Part) → Contains seen part
     → IsClean (IsTurnSecret user.durable user.other (secret_of turn)) (Contains (contents_of seen)) part.account
 
--- the machine's entry of a turn, whoever took it and wherever it stands
-abbrev pub entry_of : TurnTaken → Entry
-entry_of taken = record {
-  caller = 0;
-  given = taken.given;
-  moment = taken.moment;
-  told = taken.told;
-  turn = taken.turn;
-  answer = taken.answer;
-  place = 0;
-}
-
 -- what accounts' data mean to one another in an era
 abbrev pub user_rules : Era → Rules Part Durable User TurnTaken UserState
 user_rules era = record {
@@ -74,4 +63,5 @@ user_rules era = record {
   allows = λ user taken next. machine.Step era user (entry_of taken) next;
   clean = λ seen user taken. IsCleanOf seen user taken.turn;
   fits = StandsFor;
+  moves = MovesAccount era;
 }

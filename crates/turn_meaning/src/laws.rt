@@ -9,9 +9,11 @@ ghost use Rattle.stored_home.specs.declared.fault.StoreFault.{StoreFault};
 ghost use Rattle.user_opening.specs.Opens.{OpensUser};
 ghost use Rattle.user_state.specs.declared.state.UserState.{UserState};
 ghost use Rattle.user_turn.specs.Acts.{IsAct};
+ghost use Rattle.turn_meaning.specs.Failures.{FaultsLaw};
 ghost use Rattle.turn_meaning.specs.Meanings.{user_rules, entry_of};
 ghost use Rattle.turn_meaning.specs.Openings.{OpenStands};
 ghost use Rattle.turn_meaning.specs.Secrets.{SecretsLaw, CleanLaw};
+ghost use Rattle.turn_meaning.specs.Words.{CostsLaw, TailsLaw};
 ghost use Rattle.turn_meaning.specs.declared.taken.TurnTaken.{TurnTaken as Taken};
 
 /// What one turn of an account promises over any share is what the composition needs of a turn.
@@ -34,4 +36,17 @@ pub fn opened_user_stands()
 pub fn secrets_come_with_requests()
     ensures secrets { SecretsLaw }
     ensures clean { CleanLaw }
+{}
+
+/// Of an account's book, each of whose entries moved the account by its own device steps, at most as many entries tell
+/// a storage fault as of these steps failed.
+pub fn faults_have_failed_steps()
+    ensures { FaultsLaw }
+{}
+
+/// Of an account's book, each of whose entries moved the account by its own device steps: each factor's record that is
+/// put has the cost that new factors had at first, and each token's tail is a stretch of the first state's generator.
+pub fn books_keep_to_the_first_state()
+    ensures costs { CostsLaw }
+    ensures tails { TailsLaw }
 {}

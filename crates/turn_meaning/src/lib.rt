@@ -4,5 +4,8 @@
 mod laws;
 mod taken;
 
-pub use laws::{act_stands, opened_user_stands, secrets_come_with_requests};
+pub use laws::{
+    act_stands, books_keep_to_the_first_state, faults_have_failed_steps, opened_user_stands,
+    secrets_come_with_requests,
+};
 pub use taken::TurnTaken;
