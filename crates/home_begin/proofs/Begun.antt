@@ -147,7 +147,7 @@ module _ (device : DeviceSeen) (shared : LockId) (opening : Opening) where
         → device.lost ≡ None
         → HoldsPart (parts account) (durable account)
         → Opens (meaning_of (user_rules device.era)) (started_at at.seat at.state).state
-        (started_at at.seat at.state).steps (parts account) (opened (durable account) opening.moment)
+        (steps_of (started_at at.seat at.state).own) (parts account) (opened (durable account) opening.moment)
     opens_account account name at is named there none holds =
         let old = first_share device shared account in
         let made = opening_stands old is.opened.after name opening.cost opening.moment
@@ -157,7 +157,7 @@ module _ (device : DeviceSeen) (shared : LockId) (opening : Opening) where
         let right = made.right (parts account) (durable account) named lost holds in
         let own : made.own ≡ is.of.start.seat.own = sym made.steps.own_is ∙ is.opened.own_is in
         subst (λ (seat : Option AccountView). Opens (meaning_of (user_rules device.era))
-        (started_at seat at.state).state (started_at seat at.state).steps (parts account)
+        (started_at seat at.state).state (steps_of (started_at seat at.state).own) (parts account)
         (opened (durable account) opening.moment)) (sym is.of.start_is)
         (subst (λ (steps : List (ℕ × Step)). Opens (meaning_of (user_rules device.era)) at.state (steps_of steps)
         (parts account) (opened (durable account) opening.moment)) own right.opens)
