@@ -13,7 +13,7 @@ ghost use Rattle.client_seats.specs.Gathering.{EachAt, HaveEachNumber, IsWholeSe
 ghost use Rattle.home_locks.specs.Accounts.{started_at};
 ghost use Rattle.home_locks.specs.Closing.{AreRecalled};
 ghost use Rattle.home_locks.specs.Meanings.{client_of};
-ghost use Rattle.user_accounts.specs.Settled.{UsersSettle};
+ghost use Rattle.user_accounts.specs.Settled.{UsersMoved, UsersSettle};
 ghost use Rattle.home_seats.specs.Seats.{lock_seen};
 ghost use Rattle.home_opening.specs.Locks.{account_seen};
 ghost use Rattle.user_home.specs.Ending.{AreAccountLocks, CanEnd, IsRoomFor};
@@ -90,6 +90,8 @@ fn settle_accounts<B: Board + Drop>(
     requires books { IsRoomFor (length wholes.items) books.items (vec_capacity books) }
     ensures settled { (chain : List Step)
         × IsServed (seen_by B.faults) (StandsTo B.disk) shared.first.device result.device chain
+        × UsersMoved shared.first.device
+        (map (λ whole. started_at whole.lock.first.seat whole.lock.first.state) wholes.items) chain result.books.items
         × (IsOpened B.disk shared.first.device → UsersSettle B.disk shared.first.device result.device
         (map (λ whole. started_at whole.lock.first.seat whole.lock.first.state) wholes.items) chain
         result.books.items) }
@@ -119,6 +121,8 @@ pub fn close_locks<B: Board + Drop>(
     requires books { IsRoomFor (length wholes.items) books.items (vec_capacity books) }
     ensures settled { (chain : List Step)
         × IsServed (seen_by B.faults) (StandsTo B.disk) shared.first.device result.device chain
+        × UsersMoved shared.first.device
+        (map (λ whole. started_at whole.lock.first.seat whole.lock.first.state) wholes.items) chain result.books.items
         × (IsOpened B.disk shared.first.device → UsersSettle B.disk shared.first.device result.device
         (map (λ whole. started_at whole.lock.first.seat whole.lock.first.state) wholes.items) chain
         result.books.items) }
@@ -152,12 +156,14 @@ pub fn settle_home<B: Board + Drop>(
         home.locks.items }
     ensures names { result.names ≡ home.names }
     ensures many { length result.books.items ≡ length home.locks.items }
-    // The board is that of a device to which the chain of all accounts' steps led. Where the first one's board told its
-    // content, one place is read in all books at each moment, and all their changes are in at the end, also in each image
-    // that a crash may leave then.
+    // The board is that of a device to which the chain of all accounts' steps led. Each entry moved its account by its own
+    // stretch of the account's steps in the chain. Where the first one's board told its content, one place is read in all
+    // books at each moment, and all their changes are in at the end, also in each image that a crash may leave then.
     ensures settled { (device : BoardDevice B) × (chain : List Step)
         × (result.board ≡ board_of device)
         × IsServed (seen_by B.faults) (StandsTo B.disk) home.shared.first.device device chain
+        × UsersMoved home.shared.first.device
+        (map (λ lock. started_at lock.first.seat lock.first.state) home.locks.items) chain result.books.items
         × (IsOpened B.disk home.shared.first.device → UsersSettle B.disk home.shared.first.device device
         (map (λ lock. started_at lock.first.seat lock.first.state) home.locks.items) chain result.books.items) }
     // What each client's seat of an account knew are the client's entries in the account's book, at their places.

@@ -6,7 +6,7 @@ use Rattle.home_locks.specs.Closing.{AreRecalled}
 use Rattle.home_locks.specs.declared.account.Entry.{Entry}
 use Rattle.turn_lock.specs.Seats.{SeatView}
 use Rattle.turn_meaning.specs.declared.taken.TurnTaken.{TurnTaken}
-use Rattle.user_accounts.specs.Settled.{UsersSettle}
+use Rattle.user_accounts.specs.Settled.{UsersMoved, UsersSettle}
 use Rattle.user_state.specs.declared.state.UserState.{UserState}
 use Rattle.user_home.proofs.PartLemmas.{UserPart, UserWhole, part_seen, whole_seen, same_starts, same_clients, parts_whole, parts_numbers}
 use Rattle.user_home.proofs.settling.settle_accounts.Goals as goal
@@ -41,8 +41,10 @@ returns-clause-settled g c =
     let settled = c.settle.ensures.settled in (
       settled.0,
       settled.1,
+      subst (λ (starts : List (Started UserState)). UsersMoved first starts settled.0 c.settle.result.books.items)
+          (same_starts parts wholes same) settled.2,
       λ opened. subst (λ (starts : List (Started UserState)). UsersSettle disk first now starts settled.0
-          c.settle.result.books.items) (same_starts parts wholes same) (settled.2 opened),
+          c.settle.result.books.items) (same_starts parts wholes same) (settled.3 opened),
     )
 
 pub returns-clause-own : goal.returns-clause-own

@@ -13,7 +13,7 @@ use Rattle.platform_core.specs.Held as held
 use Rattle.turn_lock.specs.Lists.{entries_of}
 use Rattle.turn_lock.specs.Seats.{Lock, SeatView}
 use Rattle.turn_meaning.specs.declared.taken.TurnTaken.{TurnTaken}
-use Rattle.user_accounts.specs.Settled.{UsersSettle}
+use Rattle.user_accounts.specs.Settled.{UsersMoved, UsersSettle}
 use Rattle.user_state.specs.declared.state.UserState.{UserState}
 use Rattle.user_home.specs.Ending.{CanEnd}
 use Rattle.user_home.proofs.EndingLemmas.{as_many, each_image, each_recalled}
@@ -46,10 +46,14 @@ returns-clause-settled g c =
       settled.0,
       c.into_board.ensures.value ∙ ap held.board_of c.into_platform.ensures.value,
       settled.1,
+      subst (λ (starts : List (Started UserState)). UsersMoved first starts settled.0
+          c.close_locks-device.result.books.items)
+          (whole_starts c.gather_seats-wholes.result.items c.args.home.locks.items c.gather_seats-wholes.ensures.locks)
+          settled.2,
       λ opened. subst (λ (starts : List (Started UserState)). UsersSettle disk first device starts settled.0
           c.close_locks-device.result.books.items)
           (whole_starts c.gather_seats-wholes.result.items c.args.home.locks.items c.gather_seats-wholes.ensures.locks)
-          (settled.2 opened),
+          (settled.3 opened),
     )
 
 pub returns-clause-own : goal.returns-clause-own
