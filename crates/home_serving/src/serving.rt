@@ -11,7 +11,7 @@ ghost use Rattle.client_seats.specs.Clients.{client_view, new_client};
 ghost use Rattle.client_seats.specs.Gathering.{HaveEachNumber};
 ghost use Rattle.client_threads.specs.Ends.{ends_from};
 ghost use Rattle.home_locks.specs.Accounts.{started_at};
-ghost use Rattle.user_accounts.specs.Settled.{UsersSettle};
+ghost use Rattle.user_accounts.specs.Settled.{UsersMoved, UsersSettle};
 ghost use Rattle.request_turns.specs.Named.{seats_seen};
 ghost use Rattle.home_seats.specs.Seats.{lock_seen, own_at};
 ghost use Rattle.user_home.specs.Ending.{CanEnd, IsRoomFor};
@@ -125,12 +125,14 @@ pub fn serve_home<
         × HaveNoTurns (length ends.items) result.left.books.items) }
     ensures names { result.left.names ≡ home.names }
     ensures many { length result.left.books.items ≡ length home.locks.items }
-    // The board is that of a device to which the chain of all accounts' steps led. Where the first one's board told its
-    // content, one place is read in all books at each moment, and all their changes are in at the end, also in each image
-    // that a crash may leave then.
+    // The board is that of a device to which the chain of all accounts' steps led. Each entry moved its account by its own
+    // stretch of the account's steps in the chain. Where the first one's board told its content, one place is read in all
+    // books at each moment, and all their changes are in at the end, also in each image that a crash may leave then.
     ensures settled { (device : BoardDevice B) × (chain : List Step)
         × (result.left.board ≡ board_of device)
         × IsServed (seen_by B.faults) (StandsTo B.disk) home.shared.first.device device chain
+        × UsersMoved home.shared.first.device
+        (map (λ lock. started_at lock.first.seat lock.first.state) home.locks.items) chain result.left.books.items
         × (IsOpened B.disk home.shared.first.device → UsersSettle B.disk home.shared.first.device device
         (map (λ lock. started_at lock.first.seat lock.first.state) home.locks.items) chain result.left.books.items) }
 {
@@ -168,12 +170,14 @@ pub fn end_home<B: Board + Drop>(
     ensures unserved { HaveNoTurns (length seats.items) result.books.items }
     ensures names { result.names ≡ home.names }
     ensures many { length result.books.items ≡ length home.locks.items }
-    // The board is that of a device to which the chain of all accounts' steps led. Where the first one's board told its
-    // content, one place is read in all books at each moment, and all their changes are in at the end, also in each image
-    // that a crash may leave then.
+    // The board is that of a device to which the chain of all accounts' steps led. Each entry moved its account by its own
+    // stretch of the account's steps in the chain. Where the first one's board told its content, one place is read in all
+    // books at each moment, and all their changes are in at the end, also in each image that a crash may leave then.
     ensures settled { (device : BoardDevice B) × (chain : List Step)
         × (result.board ≡ board_of device)
         × IsServed (seen_by B.faults) (StandsTo B.disk) home.shared.first.device device chain
+        × UsersMoved home.shared.first.device
+        (map (λ lock. started_at lock.first.seat lock.first.state) home.locks.items) chain result.books.items
         × (IsOpened B.disk home.shared.first.device → UsersSettle B.disk home.shared.first.device device
         (map (λ lock. started_at lock.first.seat lock.first.state) home.locks.items) chain result.books.items) }
 {
