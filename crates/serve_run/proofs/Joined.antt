@@ -5,7 +5,7 @@ use Rattle.account_machine.specs.declared.user.Durable.{Durable}
 use Rattle.share_api.specs.Contents.{Bytes}
 use Rattle.share_api.specs.declared.step.Step.{Step}
 use Rattle.turn_lock.specs.Seats.{LockId, SeatView}
-use Rattle.board_device.specs.Device.{era_of}
+use Rattle.board_device.specs.Device.{era_of, seen_by}
 use Rattle.board_device.specs.declared.device.BoardDevice.{BoardDevice}
 use Rattle.home_locks.specs.Accounts.{started_at}
 use Rattle.home_locks.specs.Settled.{AreOpened}
@@ -18,6 +18,7 @@ use Rattle.home_opening.specs.declared.opening.Opening.{Opening}
 use Rattle.home_begin.specs.Begins.{IsBegun}
 use Rattle.serve_run.specs.Histories.{ArePremises, AreTold, Histories, IsEnded, users_of}
 use Rattle.serve_run.specs.Outside.{Outside}
+use Rattle.serve_run.proofs.Saying.{accounts_say}
 
 module _ {B S K C : Type 0} (outside : Outside B S K C) (handed : B) (named : List Bytes) (opening : Opening)
     (first : BoardDevice B) (shared : LockId) (names : List Bytes) (locks : List LockSeen)
@@ -48,9 +49,10 @@ module _ {B S K C : Type 0} (outside : Outside B S K C) (handed : B) (named : Li
     many = many;
     now_is = ended.2;
     served = ended.3;
+    says = accounts_say (seen_by outside.board_faults first) shared opening ended.1 0 names locks books begun.opened ended.4;
     right = λ durable premises.
         let opened = begun.device_is.right premises.told premises.agrees in
-        let settles = ended.4 opened in
+        let settles = ended.5 opened in
         let are = opens durable premises.held in
         record {
           at_one_place = settles.at_one_place (users_of durable opening.moment) are premises.clean premises.short;

@@ -22,12 +22,13 @@ use Rattle.home_locks.specs.declared.account.Entry.{Entry}
 use Rattle.turn_meaning.specs.Meanings.{HoldsPart, Part, user_rules}
 use Rattle.turn_meaning.specs.declared.taken.TurnTaken.{TurnTaken}
 use Rattle.user_accounts.specs.Parts.{parts_of, part_images_now, part_images_since}
-use Rattle.user_accounts.specs.Settled.{UsersSettle}
+use Rattle.user_accounts.specs.Settled.{UsersMoved, UsersSettle}
 use Rattle.user_state.specs.declared.state.UserState.{UserState}
 use Rattle.home_seats.specs.Seats.{LockSeen}
 use Rattle.home_opening.specs.declared.opening.Opening.{Opening}
 use Rattle.home_begin.specs.Begins.{IsBegun}
 use Rattle.serve_run.specs.Outside.{Outside}
+use Rattle.serve_run.specs.Says.{AccountsSay}
 
 -- the users that are opened with these durable parts
 abbrev pub users_of : (ℕ → Durable) → ℕ → ℕ → User
@@ -63,16 +64,19 @@ module _ {B S K C : Type 0} (outside : Outside B S K C) where
         → (outside.disk (board_of last)).left_since (outside.disk (board_of first)).ticks i
         → OthersKept (accounts_of first) image i
 
-  -- The home over this device was ended: the chain of all accounts' steps led to the board that is left. Where the
-  -- device's board told its content, one place is read in all books at each moment.
+  -- The home over this device was ended: the chain of all accounts' steps led to the board that is left, and each entry
+  -- moved its account by its own stretch of the account's steps. Where the device's board told its content, one place is
+  -- read in all books at each moment.
   abbrev pub IsEnded : BoardDevice B → List (Started UserState) → Option B → List (List (Entry TurnTaken)) → Type 0
   IsEnded first starts now books = (last : BoardDevice B) × (chain : List Step)
       × (now ≡ Some (board_of last))
       × IsServed (seen_by outside.board_faults) (StandsTo outside.disk) first last chain
+      × UsersMoved first starts chain books
       × (IsOpened outside.disk first → UsersSettle outside.disk first last starts chain books)
 
   -- A home was begun over the board that was handed out, and the chain of all accounts' steps led to the board that is
-  -- left. What it held before, the books and the images agree.
+  -- left. Each entry says what its own steps did, whatever the board tells. What it held before, the books and the images
+  -- agree.
   pub record Histories (handed : B) (named : List Bytes) (opening : Opening) (now : Option B) (names : List Bytes)
       (books : List (List (Entry TurnTaken))) : Type 0 where
     pub first : BoardDevice B
@@ -85,6 +89,7 @@ module _ {B S K C : Type 0} (outside : Outside B S K C) where
     pub many : length books ≡ length names
     pub now_is : now ≡ Some (board_of last)
     pub served : IsServed (seen_by outside.board_faults) (StandsTo outside.disk) first last chain
+    pub says : AccountsSay (seen_by outside.board_faults first) shared opening chain 0 names books
     pub right : (durable : ℕ → Durable)
         → ArePremises handed opening.moment first last chain names books durable
         → AreTold opening.moment first last chain books durable
