@@ -3,4 +3,4 @@
 
 mod laws;
 
-pub use laws::quiet_runs_end_well;
+pub use laws::{accounts_keep_to_their_opening, quiet_runs_end_well};
