@@ -11,11 +11,13 @@ use crate::source::Line;
 use std::test::Fail;
 use turn_secrets::PlainKdf;
 
-const STARTED: &str = r#"{"answer":"ok","ends":1300,"token":"0000000000000001a04b39174b36cad66d376463cb99835c"}"#;
+const STARTED: &str =
+    r#"{"answer":"ok","ends":1300,"token":"0000000000000001a04b39174b36cad66d376463cb99835c"}"#;
 
 const PROVED: &str = r#"{"answer":"ok","ends":1300}"#;
 
-const FACTORS: &str = r#"{"answer":"ok","factors":[{"kind":"password","label":"main"},{"kind":"password","label":"spare"}]}"#;
+const FACTORS: &str =
+    r#"{"answer":"ok","factors":[{"kind":"password","label":"main"},{"kind":"password","label":"spare"}]}"#;
 
 const NO_HOME: &str = r#"{"answer":"no_home"}"#;
 
@@ -90,7 +92,15 @@ fn clients_are_served_at_one_time(rt: HostRuntime) -> Result<(), Fail> {
     let alloc = rt.alloc();
     let signs = Signs::new();
     let board = empty_board(alloc)?;
-    let served = serve_two(&rt, alloc, board, &signs, &ASKS_TWICE, &ASKS_BETWEEN, PlainKdf)?;
+    let served = serve_two(
+        &rt,
+        alloc,
+        board,
+        &signs,
+        &ASKS_TWICE,
+        &ASKS_BETWEEN,
+        PlainKdf,
+    )?;
     assert!(rt; are_lines(written(&served, 0), &[NO_HOME, NO_HOME]));
     assert!(rt; are_lines(written(&served, 1), &[NO_HOME]));
     Ok(())
@@ -110,7 +120,15 @@ fn accounts_do_not_share_a_lock(rt: HostRuntime) -> Result<(), Fail> {
         signs: &signs,
         has_waited: false,
     };
-    let served = serve_two(&rt, alloc, board, &signs, &CREATES, &ASKS_OF_ANOTHER, PlainKdf)?;
+    let served = serve_two(
+        &rt,
+        alloc,
+        board,
+        &signs,
+        &CREATES,
+        &ASKS_OF_ANOTHER,
+        PlainKdf,
+    )?;
     assert!(rt; are_lines(written(&served, 0), &[MADE]));
     assert!(rt; are_lines(written(&served, 1), &[NO_HOME]));
     assert!(rt; signs.has(Sign::Inside) && !signs.has(Sign::Missed));

@@ -38,12 +38,7 @@ const MOMENT: u64 = 1000;
 
 /// A board with no files.
 pub fn empty_board(alloc: Global) -> Result<MemBoard, Fail> {
-    Ok(MemBoard::new(
-        alloc,
-        Vec::new(alloc),
-        [0; 256],
-        Vec::new(alloc),
-    )?)
+    Ok(MemBoard::new(alloc, Vec::new(alloc), [0; 256], Vec::new(alloc))?)
 }
 
 // A client with these lines.
@@ -99,12 +94,7 @@ fn begin_over<R: Wait, B: Board + Drop>(
 }
 
 /// Serves two clients of the home over a board, with this derivation of keys.
-pub fn serve_two<
-    'a,
-    R: Threads + Wait + Sync,
-    B: Board + Send + Drop,
-    F: Kdf + Copy + Sync + Drop,
->(
+pub fn serve_two<'a, R: Threads + Wait + Sync, B: Board + Send + Drop, F: Kdf + Copy + Sync + Drop>(
     rt: &R,
     alloc: Global,
     board: B,

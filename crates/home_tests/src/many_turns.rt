@@ -10,7 +10,11 @@ use std::test::Fail;
 use turn_secrets::PlainKdf;
 
 // How many entries of ann's book are a client's, and whether the places of those with steps rise.
-fn entries_of(alloc: Global, served: &Served<'_, MemBoard>, client: u32) -> Result<(usize, bool), Fail> {
+fn entries_of(
+    alloc: Global,
+    served: &Served<'_, MemBoard>,
+    client: u32,
+) -> Result<(usize, bool), Fail> {
     let Some(book) = served.left.books.get(0) else {
         return Err(Fail::new("no book is left"));
     };
