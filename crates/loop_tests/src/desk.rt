@@ -1,5 +1,6 @@
 //! Clients that are opened one after another, over a desk in memory.
 
+use crate::made::{bytes_of, numbers};
 use ct_bytes::Text;
 use mem_board::MemBoard;
 use request_loop::{ListClock, MemSink, MemSource, Source};
@@ -12,14 +13,14 @@ fn desk_of(alloc: Global, fails: &[u64]) -> Result<MemDesk, Fail> {
     let mut clients = Vec::new(alloc);
     for input in [b"1".as_slice(), b"22", b"333"] {
         clients.push(Client {
-            source: MemSource::new(Vec::from_slice(alloc, input)?, 8, Vec::new(alloc)),
+            source: MemSource::new(bytes_of(alloc, input)?, 8, Vec::new(alloc)),
             sink: MemSink::new(alloc, 0, Vec::new(alloc))?,
             clock: ListClock::new(Vec::new(alloc)),
         })?;
     }
     let board = MemBoard::new(alloc, Vec::new(alloc), [0; 256], Vec::new(alloc))?;
     let dir = Text::from_str(alloc, "d")?;
-    let fails = Vec::from_slice(alloc, fails)?;
+    let fails = numbers(alloc, fails)?;
     Ok(MemDesk::new(900, [0; 32], dir, board, clients, fails))
 }
 
@@ -38,13 +39,12 @@ fn clients_are_opened_in_order_up_to_one_that_fails(rt: HostRuntime) -> Result<(
         let mut desk = desk_of(alloc, fails)?;
         let mut clients = Vec::with_capacity(alloc, count as usize)?;
         let end = open_clients(alloc, &mut desk, 1, &mut clients, count);
-        assert_eq!(rt; end.err(), stop, "at {count}");
-        assert_eq!(rt; clients.len(), opened, "at {count}");
+        assert!(rt; end.err() == stop, "at {count}");
+        assert!(rt; clients.len() == opened, "at {count}");
         for (place, client) in clients.iter_mut().enumerate() {
             let mut input = [0; 8];
-            assert_eq!(rt;
-                client.source.read(&mut input).ok(),
-                Some(place + 1),
+            assert!(rt;
+                client.source.read(&mut input).ok() == Some(place + 1),
                 "at {count}"
             );
         }

@@ -6,4 +6,6 @@ mod desk;
 #[cfg(test)]
 mod lines;
 #[cfg(test)]
+mod made;
+#[cfg(test)]
 mod objects;

@@ -2,6 +2,7 @@
 
 ghost use Rattle.std.specs.Prelude.{◌≤◌};
 
+use crate::made::{bytes_of, numbers};
 use request_loop::{Line, ListClock, LoopEnd, MemSink, MemSource, Service, Source, serve_client};
 use std::alloc::{AllocError, Global};
 use std::test::Fail;
@@ -23,15 +24,21 @@ impl Service for Echo {
     }
 }
 
-fn numbers(alloc: Global, numbers: &[u64]) -> Result<Vec<u64>, AllocError> {
-    Vec::from_slice(alloc, numbers)
+fn letters(alloc: Global, count: usize) -> Result<Vec<u8>, AllocError> {
+    vec![in alloc; b'a'; count]
 }
 
 // So many bytes `a`, and then `rest`.
 fn long_line(alloc: Global, count: usize, rest: &[u8]) -> Result<Vec<u8>, AllocError> {
-    let mut line = vec![in alloc; b'a'; count]?;
+    let mut line = letters(alloc, count)?;
     line.extend_from_slice(rest)?;
     Ok(line)
+}
+
+fn twice(alloc: Global, part: &[u8]) -> Result<Vec<u8>, AllocError> {
+    let mut both = bytes_of(alloc, part)?;
+    both.extend_from_slice(part)?;
+    Ok(both)
 }
 
 // Serves the source with a clock that gives 1, 2, 3 and so on.
@@ -51,14 +58,13 @@ fn each_line_is_answered_with_its_own_moment(rt: HostRuntime) -> Result<(), Fail
         ("ab\n\n\r\nabcdef", "1ab\n2\n3\r\n4abcd\n"),
     ] {
         for piece in [1, 3, 5000] {
-            let bytes = Vec::from_slice(alloc, input.as_bytes())?;
+            let bytes = bytes_of(alloc, input.as_bytes())?;
             let mut source = MemSource::new(bytes, piece, numbers(alloc, &[])?);
             let mut sink = MemSink::new(alloc, 100, numbers(alloc, &[])?)?;
             let end = serve(alloc, &mut source, &mut sink)?;
-            assert_eq!(rt; end, LoopEnd::End);
-            assert_eq!(rt;
-                sink.written(),
-                want.as_bytes(),
+            assert!(rt; end == LoopEnd::End);
+            assert!(rt;
+                sink.written() == want.as_bytes(),
                 "{want} in pieces of {piece}"
             );
         }
@@ -80,8 +86,8 @@ fn a_line_of_more_than_100000_bytes_is_too_long(rt: HostRuntime) -> Result<(), F
         let mut source = MemSource::new(bytes, 4096, numbers(alloc, &[])?);
         let mut sink = MemSink::new(alloc, 100, numbers(alloc, &[])?)?;
         let end = serve(alloc, &mut source, &mut sink)?;
-        assert_eq!(rt; end, LoopEnd::End);
-        assert_eq!(rt; sink.written(), want.as_bytes(), "{count} bytes");
+        assert!(rt; end == LoopEnd::End);
+        assert!(rt; sink.written() == want.as_bytes(), "{count} bytes");
     }
     Ok(())
 }
@@ -89,17 +95,17 @@ fn a_line_of_more_than_100000_bytes_is_too_long(rt: HostRuntime) -> Result<(), F
 #[test]
 fn the_whole_lines_before_a_source_fault_are_answered(rt: HostRuntime) -> Result<(), Fail> {
     let alloc = rt.alloc();
-    let bytes = Vec::from_slice(alloc, b"ab\ncdef\ngh")?;
+    let bytes = bytes_of(alloc, b"ab\ncdef\ngh")?;
     let mut source = MemSource::new(bytes, 4, numbers(alloc, &[2])?);
     let mut sink = MemSink::new(alloc, 100, numbers(alloc, &[])?)?;
     let end = serve(alloc, &mut source, &mut sink)?;
-    assert_eq!(rt; end, LoopEnd::SourceFault);
-    assert_eq!(rt; sink.written(), b"1ab\n".as_slice());
+    assert!(rt; end == LoopEnd::SourceFault);
+    assert!(rt; sink.written() == b"1ab\n".as_slice());
 
     // A read that works again isn't at the end: what is left is served.
     let end = serve(alloc, &mut source, &mut sink)?;
-    assert_eq!(rt; end, LoopEnd::End);
-    assert_eq!(rt; sink.written(), b"1ab\n1def\n2gh\n".as_slice());
+    assert!(rt; end == LoopEnd::End);
+    assert!(rt; sink.written() == b"1ab\n1def\n2gh\n".as_slice());
     Ok(())
 }
 
@@ -113,12 +119,12 @@ fn a_sink_fault_ends_the_loop_at_its_write(rt: HostRuntime) -> Result<(), Fail> 
         (9, 7, ""),
         (9, 8, "1ab\n2cd\n"),
     ] {
-        let bytes = Vec::from_slice(alloc, b"ab\ncd\nef")?;
+        let bytes = bytes_of(alloc, b"ab\ncd\nef")?;
         let mut source = MemSource::new(bytes, 100, numbers(alloc, &[])?);
         let mut sink = MemSink::new(alloc, room, numbers(alloc, &[fails])?)?;
         let end = serve(alloc, &mut source, &mut sink)?;
-        assert_eq!(rt; end, LoopEnd::SinkFault);
-        assert_eq!(rt; sink.written(), want.as_bytes(), "write {fails} fails");
+        assert!(rt; end == LoopEnd::SinkFault);
+        assert!(rt; sink.written() == want.as_bytes(), "write {fails} fails");
     }
     Ok(())
 }
@@ -132,15 +138,15 @@ fn the_next_read_waits_for_the_replies_to_the_last(rt: HostRuntime) -> Result<()
         (2, "1ab\n", "ef\n"),
         (3, "1ab\n2cd\n", "gh\n"),
     ] {
-        let bytes = Vec::from_slice(alloc, b"ab\ncd\nef\ngh\n")?;
+        let bytes = bytes_of(alloc, b"ab\ncd\nef\ngh\n")?;
         let mut source = MemSource::new(bytes, 3, numbers(alloc, &[])?);
         let mut sink = MemSink::new(alloc, 100, numbers(alloc, &[fails])?)?;
         let end = serve(alloc, &mut source, &mut sink)?;
-        assert_eq!(rt; end, LoopEnd::SinkFault);
-        assert_eq!(rt; sink.written(), want.as_bytes(), "write {fails} fails");
+        assert!(rt; end == LoopEnd::SinkFault);
+        assert!(rt; sink.written() == want.as_bytes(), "write {fails} fails");
         let mut buf = [b'.'; 3];
-        assert_eq!(rt; source.read(&mut buf), Ok(3));
-        assert_eq!(rt; buf.as_slice(), next.as_bytes());
+        assert!(rt; source.read(&mut buf) == Ok(3));
+        assert!(rt; buf.as_slice() == next.as_bytes());
     }
     Ok(())
 }
@@ -163,14 +169,13 @@ impl Service for Mirror {
 fn replies_beyond_the_buffer_are_written_in_their_order(rt: HostRuntime) -> Result<(), Fail> {
     let alloc = rt.alloc();
     for count in [30_000, 65_535, 65_536, 99_999] {
-        let mut bytes = long_line(alloc, count, b"\nb\n")?;
-        bytes.extend_from_slice(&bytes.clone()?)?;
-        let want = bytes.clone()?;
+        let bytes = twice(alloc, &long_line(alloc, count, b"\nb\n")?)?;
+        let want = bytes_of(alloc, &bytes)?;
         let mut source = MemSource::new(bytes, 4096, numbers(alloc, &[])?);
         let mut sink = MemSink::new(alloc, 300_000, numbers(alloc, &[])?)?;
         let mut clock = ListClock::new(numbers(alloc, &[1])?);
         let end = serve_client(alloc, &mut source, &mut sink, &mut clock, &mut Mirror);
-        assert_eq!(rt; end, LoopEnd::End);
+        assert!(rt; end == LoopEnd::End);
         assert!(rt; sink.written() == want.as_slice(), "at {count}");
     }
     Ok(())

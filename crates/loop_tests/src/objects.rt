@@ -1,5 +1,6 @@
 //! A source, a sink and a clock in memory.
 
+use crate::made::{bytes_of, numbers};
 use fault_count::Failed;
 use request_loop::{Clock, ListClock, MemSink, MemSource, Sink, Source};
 use std::test::Fail;
@@ -7,8 +8,8 @@ use std::test::Fail;
 #[test]
 fn a_source_in_memory_gives_its_bytes_in_pieces(rt: HostRuntime) -> Result<(), Fail> {
     let alloc = rt.alloc();
-    let bytes = Vec::from_slice(alloc, b"abcdefg")?;
-    let mut source = MemSource::new(bytes, 3, Vec::from_slice(alloc, &[2, 5])?);
+    let bytes = bytes_of(alloc, b"abcdefg")?;
+    let mut source = MemSource::new(bytes, 3, numbers(alloc, &[2, 5])?);
     let mut buf = [b'.'; 4];
     for (want, left) in [
         (Ok(3), "abc."),
@@ -18,8 +19,8 @@ fn a_source_in_memory_gives_its_bytes_in_pieces(rt: HostRuntime) -> Result<(), F
         (Err(Failed), "gef."),
         (Ok(0), "gef."),
     ] {
-        assert_eq!(rt; source.read(&mut buf), want, "{left}");
-        assert_eq!(rt; buf.as_slice(), left.as_bytes());
+        assert!(rt; source.read(&mut buf) == want, "{left}");
+        assert!(rt; buf.as_slice() == left.as_bytes());
     }
     Ok(())
 }
@@ -27,7 +28,7 @@ fn a_source_in_memory_gives_its_bytes_in_pieces(rt: HostRuntime) -> Result<(), F
 #[test]
 fn a_sink_in_memory_writes_all_or_nothing(rt: HostRuntime) -> Result<(), Fail> {
     let alloc = rt.alloc();
-    let mut sink = MemSink::new(alloc, 5, Vec::from_slice(alloc, &[2])?)?;
+    let mut sink = MemSink::new(alloc, 5, numbers(alloc, &[2])?)?;
     for (bytes, want, written) in [
         ("ab", Ok(()), "ab"),
         ("c", Err(Failed), "ab"),
@@ -35,8 +36,8 @@ fn a_sink_in_memory_writes_all_or_nothing(rt: HostRuntime) -> Result<(), Fail> {
         ("cde", Ok(()), "abcde"),
         ("f", Err(Failed), "abcde"),
     ] {
-        assert_eq!(rt; sink.write(bytes.as_bytes()), want, "{bytes}");
-        assert_eq!(rt; sink.written(), written.as_bytes());
+        assert!(rt; sink.write(bytes.as_bytes()) == want, "{bytes}");
+        assert!(rt; sink.written() == written.as_bytes());
     }
     Ok(())
 }
@@ -44,11 +45,11 @@ fn a_sink_in_memory_writes_all_or_nothing(rt: HostRuntime) -> Result<(), Fail> {
 #[test]
 fn a_clock_in_memory_gives_its_last_number_again(rt: HostRuntime) -> Result<(), Fail> {
     let alloc = rt.alloc();
-    let mut clock = ListClock::new(Vec::from_slice(alloc, &[7, 5])?);
+    let mut clock = ListClock::new(numbers(alloc, &[7, 5])?);
     for want in [7, 5, 5, 5] {
-        assert_eq!(rt; clock.now(), want);
+        assert!(rt; clock.now() == want);
     }
-    let mut none = ListClock::new(Vec::from_slice(alloc, &[])?);
-    assert_eq!(rt; none.now(), 0);
+    let mut none = ListClock::new(numbers(alloc, &[])?);
+    assert!(rt; none.now() == 0);
     Ok(())
 }
