@@ -1,5 +1,6 @@
 pub mod Lists
 pub mod Salsa
+pub mod Lanes
 pub mod BlockMix
 pub mod Romix
 pub mod Bytes

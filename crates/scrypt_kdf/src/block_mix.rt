@@ -1,23 +1,10 @@
 //! BlockMix on 2 r blocks of 16 words.
 
-ghost use Rattle.std.specs.Prelude.{◌≡◌, ℕ, ◌+◌, ◌-◌, ◌*◌, ◌<◌, ◌≤◌, List, length, slice_index, take, bit_xor};
-ghost use Rattle.scrypt_kdf.specs.Lists.{joined, xor_words};
+ghost use Rattle.std.specs.Prelude.{◌≡◌, ℕ, ◌+◌, ◌-◌, ◌*◌, ◌<◌, ◌≤◌, length};
+ghost use Rattle.scrypt_kdf.specs.Lists.{joined};
 ghost use Rattle.scrypt_kdf.specs.BlockMix.{chained, block_mix};
 
-use crate::salsa::salsa;
-
-// The block under xor with 16 words.
-#[inline(always)]
-fn xored(x: [u32; 16], b: &[u32]) -> [u32; 16]
-    requires { length b.now ≡ 16 }
-    ensures { result ≡ xor_words x b.now }
-{
-    let mut out = [0u32; 16];
-    'words: for k in 0..16 {
-        out[k] = x[k] ^ b[k];
-    }
-    out
-}
+use crate::salsa::{block_of, salsa, words_of, xored};
 
 // The blocks of BlockMix: those of even numbers, and those of odd ones.
 fn mix_halves(r: usize, b: &[u32], evens: &mut [u32], odds: &mut [u32])
@@ -28,13 +15,12 @@ fn mix_halves(r: usize, b: &[u32], evens: &mut [u32], odds: &mut [u32])
     ensures evens { evens.new ≡ joined (λ i. chained r b.now (2 * i + 1)) r }
     ensures odds { odds.new ≡ joined (λ i. chained r b.now (2 * i + 2)) r }
 {
-    let mut x = [0u32; 16];
-    x.copy_from_slice(&b[16 * (2 * r - 1)..]);
+    let mut x = block_of(&b[16 * (2 * r - 1)..]);
     'pairs: for i in 0..r {
         x = salsa(xored(x, &b[16 * (2 * i)..16 * (2 * i) + 16]));
-        evens[16 * i..16 * i + 16].copy_from_slice(&x);
+        evens[16 * i..16 * i + 16].copy_from_slice(&words_of(x));
         x = salsa(xored(x, &b[16 * (2 * i + 1)..16 * (2 * i + 1) + 16]));
-        odds[16 * i..16 * i + 16].copy_from_slice(&x);
+        odds[16 * i..16 * i + 16].copy_from_slice(&words_of(x));
     }
 }
 
